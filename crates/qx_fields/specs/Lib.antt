@@ -1,0 +1,2 @@
+pub use Rattle.qx_bytes.specs.Ranges
+pub mod Number

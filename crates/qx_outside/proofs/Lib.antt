@@ -1,0 +1,4 @@
+pub mod Events
+pub mod Cuts
+pub mod Throughout
+pub mod ReadCounts

@@ -1,0 +1,21 @@
+-- Counts of faults, and the failures that they explain.
+use Rattle.std.specs.Prelude.{◌≡◌, IfSome, ℕ, ◌+◌, ◌-◌, ◌≤◌, ◌^◌, min, Option, None, Some, Result, OnErr}
+
+-- the count rose, or stands at its last value
+abbrev pub Rose : ℕ → ℕ → Type 0
+Rose before now = min (before + 1) (2 ^ 64 - 1) ≤ now
+
+-- the count never falls, and an `Err` comes only where it rose
+pub record HasCause {T E : Type 0} (before now : ℕ) (result : Result T E) : Type 0 where
+  pub later : before ≤ now
+  pub failed : OnErr result (Rose before now)
+
+-- what is told after was told before, and R stands between
+abbrev pub Becomes : {A : Type 0} → Option A → Option A → (A → A → Type 0) → Type 0
+Becomes old None R = Unit {0}
+Becomes None (Some new) R = ⊥
+Becomes (Some old) (Some new) R = R old new
+
+-- what is told after was told before, and is the same
+pub record StaysWhereTold {A : Type 0} (old new : Option A) : Type 0 where
+  pub same : IfSome new (λ a. old ≡ Some a)

@@ -1,0 +1,90 @@
+-- What a host in memory tells, and the rules by which its calls go.
+use Rattle.std.specs.Prelude.{ℕ, ◌≡◌, ◌+◌, ◌-◌, ◌/◌, ◌^◌, min, Bool, true, false, List, ◌++◌, ◌⊎◌, length, take, drop, reverse, slice_range, slice_index, nat_le, nat_lt, Option, Some, None, if◌then◌else◌}
+use Rattle.std.specs.Option.{option_map}
+use Rattle.qx_outside.specs.declared.event.Attachment.{Attachment}
+use Rattle.qx_outside.specs.declared.memory.MemHost.{MemHost}
+use Rattle.qx_outside.specs.declared.schedule.Fate.{Fate}
+use Rattle.qx_outside.specs.declared.schedule.Fate.TheVariants.{Good, Bad, NoRoom}
+use Rattle.qx_outside.specs.Trail.{History, Deed, after, deeds_of}
+use Rattle.qx_outside.specs.Schedule.{fate_of}
+
+-- ---- what it tells
+
+-- it always tells
+abbrev pub all_told : MemHost → Bool
+all_told h = true
+
+-- the start, and the deeds of its log
+abbrev pub history_of : MemHost → History
+history_of h = record { starting = h.start.items; deeds = deeds_of (reverse h.log.trail.items) (reverse h.log.asked.items) }
+
+-- what was attached, the newest first
+abbrev pub attached_of : MemHost → Option (List Attachment)
+attached_of h = option_map (λ paths. reverse paths.items.items) h.attached
+
+-- the length of its bytes
+abbrev pub extent_of : MemHost → Option ℕ
+extent_of h = Some (length h.bytes.items)
+
+-- how many reads were Ok
+abbrev pub reads_of : MemHost → Option ℕ
+reads_of h = Some h.schedule.reads
+
+-- how many device calls failed
+abbrev pub dev_faults_of : MemHost → ℕ
+dev_faults_of h = h.dev_faults
+
+-- how many calls of the console and the clock failed
+abbrev pub con_faults_of : MemHost → ℕ
+con_faults_of h = h.con_faults
+
+-- ---- by which rules it goes
+
+-- what is to come: the numbers of calls that fail, how many calls there were, the room for events, the input that is left, the moments, and how many of them were told
+pub record Setup : Type 0 where
+  pub failing : List ℕ
+  pub calls : ℕ
+  pub room : ℕ
+  pub input : List ℕ
+  pub moments : List ℕ
+  pub moments_told : ℕ
+
+-- what is to come of a host
+abbrev pub setup_of : MemHost → Setup
+setup_of h = record { failing = h.schedule.failing.items; calls = h.schedule.calls; room = h.room; input = drop h.taken h.input.items; moments = h.moments.items; moments_told = h.moments_told }
+
+-- one more call
+abbrev pub counted : Setup → Setup
+counted s = record s { calls = min (s.calls + 1) (2 ^ 64 - 1) }
+
+-- one more call, which took so many bytes of the input
+abbrev pub taken_off : ℕ → Setup → Setup
+taken_off n s = record (counted s) { input = drop n s.input }
+
+-- one more call, which told a moment
+abbrev pub asked_again : Setup → Setup
+asked_again s = record (counted s) { moments_told = min (s.moments_told + 1) (2 ^ 64 - 1) }
+
+-- the moment that is told next: the last one, where all were told, and 0 where there is none
+abbrev pub moment_at : Setup → ℕ
+moment_at s = if nat_lt s.moments_told (length s.moments) then slice_index s.moments s.moments_told else slice_index s.moments (length s.moments - 1)
+
+-- the fate of the next call
+abbrev pub next_fate : MemHost → Fate
+next_fate h = fate_of h.schedule.failing.items h.schedule.calls (nat_le h.room (length h.log.trail.items))
+
+-- what a failed write leaves in its range: the first half of its bytes, rounded down, and what stood behind them
+abbrev pub half_left : List ℕ → ℕ → List ℕ → List ℕ
+half_left device at bytes = take (length bytes / 2) bytes ++ slice_range device (at + length bytes / 2) (at + length bytes)
+
+-- the history after a deed, if there is one
+abbrev pub after_any : Option Deed → History → History
+after_any None h = h
+after_any (Some deed) h = after deed h
+
+-- what a call does by its fate: it is done with one deed, or fails with another; for want of room or of memory it fails with none
+abbrev pub GoesBy : Fate → Bool → Option Deed → Option Deed → History → History → Type 0
+GoesBy NoRoom good deed failed old new = (good ≡ false) × (new ≡ old)
+GoesBy Bad good deed failed old new = (good ≡ false) × ((new ≡ old) ⊎ (new ≡ after_any failed old))
+GoesBy Good true deed failed old new = new ≡ after_any deed old
+GoesBy Good false deed failed old new = new ≡ old

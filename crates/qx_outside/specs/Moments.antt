@@ -1,0 +1,34 @@
+-- What holds at each moment of a run: of the history before it, of each one on the way, and of the one after it.
+use Rattle.std.specs.Prelude.{Bool, IsTrue, ◌≡◌, List, [], ◌∷◌, ◌++◌}
+use Rattle.qx_outside.specs.Trail.{History, Deed}
+
+-- the history after these deeds, the newest first
+abbrev pub grown : History → List Deed → History
+grown old since = record { starting = old.starting; deeds = since ++ old.deeds }
+
+-- P holds of the history and of each one on the way while these deeds are done
+abbrev pub HoldsAlong : (History → Type 0) → History → List Deed → Type 0
+HoldsAlong P old [] = P old
+HoldsAlong P old (deed ∷ since) = P (grown old (deed ∷ since)) × HoldsAlong P old since
+
+-- the new history is the old one grown, and P holds at each moment
+pub record HoldsThroughout (P : History → Type 0) (old new : History) : Type 0 where
+  pub since : List Deed
+  pub grew : new ≡ grown old since
+  pub along : HoldsAlong P old since
+
+module _ {D : Type 0} (tells : D → Bool) (history : D → History) where
+  -- where P holds before, it holds at each moment
+  pub record Keeps (P : History → Type 0) (old new : D) : Type 0 where
+    pub before : IsTrue (tells new) → IsTrue (tells old)
+    pub step : IsTrue (tells new) → P (history old) → HoldsThroughout P (history old) (history new)
+
+  -- where L holds before, Q holds at each moment, and M after
+  pub record Moves (L M Q : History → Type 0) (old new : D) : Type 0 where
+    pub before : IsTrue (tells new) → IsTrue (tells old)
+    pub step : IsTrue (tells new) → L (history old) → HoldsThroughout Q (history old) (history new) × M (history new)
+
+  -- where L holds before, Q holds at each moment
+  pub record Reaches (L Q : History → Type 0) (old new : D) : Type 0 where
+    pub before : IsTrue (tells new) → IsTrue (tells old)
+    pub step : IsTrue (tells new) → L (history old) → HoldsThroughout Q (history old) (history new)

@@ -1,0 +1,117 @@
+//! A host in memory, for tests: it fails where it is told to, and tells everything.
+ghost use Rattle.std.specs.Prelude.{◌≡◌, ◌≤◌, [], length, reverse, nat_le, Some, IfOk, IfSome};
+ghost use Rattle.qx_outside.specs.Trail.{device_bytes, deeds_of, bytes_of, trail_of, output};
+
+mod console;
+mod device;
+
+use crate::Event;
+use crate::log::{Log, Paths};
+use crate::schedule::Schedule;
+use std::alloc::{AllocError, Global};
+
+/// A host in memory. Its calls are numbered from 0 over all methods of both traits.
+/// A call fails where its number is on the list, where its number is 2^64 - 1, where the trail has as many events as it has room for, or where its own copy finds no memory.
+/// For want of room or of memory it fails with no event and changes no byte; else a failed write or put leaves the first half of its bytes, rounded down.
+#[derive(Drop)]
+pub struct MemHost {
+    alloc: Global,
+    start: Vec<u8>,
+    bytes: Vec<u8>,
+    log: Log,
+    attached: Option<Paths>,
+    input: Vec<u8>,
+    taken: usize,
+    moments: Vec<u32>,
+    moments_told: usize,
+    schedule: Schedule,
+    room: usize,
+    dev_faults: u64,
+    con_faults: u64,
+    ghost in_step: { bytes.items ≡ device_bytes start.items (deeds_of (reverse log.trail.items) (reverse log.asked.items)) },
+    ghost taken_bound: { taken ≤ length input.items },
+}
+
+impl MemHost {
+    ghost use Rattle.qx_outside.specs.Memory.{history_of, setup_of, extent_of, attached_of, reads_of, dev_faults_of, con_faults_of};
+
+    /// A host over a device of these bytes, with this input. The k-th asking of the clock gives the k-th moment, then the last one again, or 0 where there is none.
+    /// `failing` has the numbers of calls that fail, and `room` is how many events the trail can have.
+    pub fn new(
+        alloc: Global,
+        bytes: Vec<u8>,
+        input: Vec<u8>,
+        moments: Vec<u32>,
+        failing: Vec<u64>,
+        room: usize,
+    ) -> Result<MemHost, AllocError>
+        ensures history { IfOk result (λ h. history_of h ≡ record { starting = bytes.items; deeds = [] }) }
+        ensures setup { IfOk result (λ h. setup_of h ≡ record { failing = failing.items; calls = 0; room = room; input = input.items; moments = moments.items; moments_told = 0 }) }
+        ensures length { IfOk result (λ h. extent_of h ≡ Some (length bytes.items)) }
+        ensures attached { IfOk result (λ h. attached_of h ≡ Some []) }
+        ensures reads { IfOk result (λ h. reads_of h ≡ Some 0) }
+        ensures faults { IfOk result (λ h. (dev_faults_of h ≡ 0) × (con_faults_of h ≡ 0)) }
+    {
+        let start = bytes.as_slice().to_vec(alloc)?;
+        Ok(MemHost {
+            alloc,
+            start,
+            bytes,
+            log: Log::new(alloc),
+            attached: Some(Paths::new(alloc)),
+            input,
+            taken: 0,
+            moments,
+            moments_told: 0,
+            schedule: Schedule::new(failing),
+            room,
+            dev_faults: 0,
+            con_faults: 0,
+        })
+    }
+
+    fn is_full(&self) -> bool
+        ensures { result ≡ nat_le self.now.room (length self.now.log.trail.items) }
+    {
+        self.log.trail.len() >= self.room
+    }
+
+    /// The device's bytes.
+    pub fn bytes(&self) -> &[u8]
+        ensures { result.now ≡ bytes_of (history_of self.now) }
+    {
+        let _whole = &self.log;
+        &self.bytes
+    }
+
+    /// The events in real order.
+    #[tactic(auto, using(crate::proofs::Events::trail_of_events))]
+    pub fn trail(&self) -> &[Event]
+        ensures { result.now ≡ trail_of (history_of self.now) }
+    {
+        &self.log.trail
+    }
+
+    /// How many device reads were Ok.
+    pub fn reads(&self) -> u64
+        ensures { reads_of self.now ≡ Some result }
+    {
+        self.schedule.reads
+    }
+
+    /// All bytes that were put.
+    pub fn output(&self) -> Result<Vec<u8>, AllocError>
+        ensures { IfOk result (λ all. all.items ≡ output (history_of self.now)) }
+    {
+        let mut all = Vec::new(self.alloc);
+        for event in &self.log.trail {
+            if let Event::Gave(bytes) = event {
+                all.extend_from_slice(bytes.bytes())?;
+            }
+        }
+        Ok(all)
+    }
+}
+
+#[cfg(test)]
+mod tests;

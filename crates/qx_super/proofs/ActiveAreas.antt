@@ -1,0 +1,129 @@
+-- The active area by what was read, and on what it depends.
+use Rattle.std.proofs.Common.{◌≡◌, ℕ, Bool, true, false, List, length, replicate, Option, Some, None, Err, IsSome, IfSome, refl, ap, sym, ◌∙◌, if◌then◌else◌}
+use Rattle.std.specs.Prelude.{option_and_then}
+use Rattle.std.specs.Result.{result_ok}
+use Rattle.qx_fields.specs.Number.{field}
+use Rattle.qx_geom.specs.declared.area.Which.{Which}
+use Rattle.qx_geom.specs.declared.area.Which.TheVariants.{First, Second}
+use Rattle.qx_super.specs.declared.choice.Pick.TheVariants as picks
+use Rattle.qx_super.specs.declared.superblock.SuperFault.TheVariants.{Magic}
+use Rattle.qx_outside.specs.Causes.{StaysWhereTold}
+use Rattle.qx_super.specs.Superblock.{Superblock, order_of, superblock_of}
+use Rattle.qx_super.specs.Active.{AreRead, area_at, valid_area, only_at, searched_place, buffer_of, first_area, second_area, first_super, second_search, second_super, first_read, second_read, pick_of, super_of_pick, active_area, active_super}
+
+-- bytes 0 have no magic
+pub superblock_of-zeros : (len : ℕ) → superblock_of (replicate 512 0) len ≡ Err Magic
+unfolding order_of field
+superblock_of-zeros len = refl
+
+-- what a buffer gives of an area that is there or not
+valid_buffer : (len : ℕ) (area : Option (List ℕ)) → result_ok (superblock_of (buffer_of area) len) ≡ valid_area len area
+valid_buffer len None = ap result_ok (superblock_of-zeros len)
+valid_buffer len (Some bytes) = refl
+
+-- the first superblock is what was read
+pub first_read-is : (img first second : List ℕ) → AreRead img first second → first_read first (length img) ≡ first_super img
+first_read-is img first second read =
+    ap (λ (bytes : List ℕ). result_ok (superblock_of bytes (length img))) read.first_bytes ∙ valid_buffer (length img) (first_area img)
+
+-- what was read from where the second area is looked for
+second_at : (img second : List ℕ) (search : Option ℕ) → second ≡ buffer_of (option_and_then (λ place. area_at img place) search)
+    → option_and_then (λ place. only_at place (result_ok (superblock_of second (length img)))) search ≡ option_and_then (λ place. only_at place (valid_area (length img) (area_at img place))) search
+second_at img second None e = refl
+second_at img second (Some place) e =
+    ap (λ (bytes : List ℕ). only_at place (result_ok (superblock_of bytes (length img)))) e
+    ∙ ap (λ (s : Option Superblock). only_at place s) (valid_buffer (length img) (area_at img place))
+
+-- the second superblock is what was read
+pub second_read-is : (img first second : List ℕ) → AreRead img first second → second_read first second (length img) ≡ second_super img
+second_read-is img first second read =
+    ap (λ (s : Option Superblock). option_and_then (λ place. only_at place (result_ok (superblock_of second (length img)))) (searched_place (length img) s)) (first_read-is img first second read)
+    ∙ second_at img second (second_search img) read.second_bytes
+
+-- the active area is what was read
+pub pick_of-read : (img first second : List ℕ) → AreRead img first second → pick_of (first_read first (length img)) (second_read first second (length img)) ≡ active_area img
+unfolding active_area
+pick_of-read img first second read =
+    ap (λ (s : Option Superblock). pick_of s (second_read first second (length img))) (first_read-is img first second read)
+    ∙ ap (λ (s : Option Superblock). pick_of (first_super img) s) (second_read-is img first second read)
+
+module _ (img other : List ℕ) (long : length other ≡ length img) (firsts : first_area other ≡ first_area img) (seconds : second_area other ≡ second_area img) where
+  -- the same buffers are read from both images
+  read_same : AreRead other (buffer_of (first_area img)) (buffer_of (second_area img))
+  read_same = record { first_bytes = ap buffer_of (sym firsts); second_bytes = ap buffer_of (sym seconds) }
+
+  -- and they are those of the image itself
+  read_own : AreRead img (buffer_of (first_area img)) (buffer_of (second_area img))
+  read_own = record { first_bytes = refl; second_bytes = refl }
+
+  -- so both have the same first superblock
+  first_super-same : first_super other ≡ first_super img
+  first_super-same =
+      sym (first_read-is other _ _ read_same) ∙ ap (λ (len : ℕ). first_read (buffer_of (first_area img)) len) long ∙ first_read-is img _ _ read_own
+
+  -- and the same second one
+  second_super-same : second_super other ≡ second_super img
+  second_super-same =
+      sym (second_read-is other _ _ read_same) ∙ ap (λ (len : ℕ). second_read (buffer_of (first_area img)) (buffer_of (second_area img)) len) long ∙ second_read-is img _ _ read_own
+
+  -- the active area depends on the length and the areas
+  pub active_area-same : active_area other ≡ active_area img
+  unfolding active_area
+  active_area-same =
+      ap (λ (s : Option Superblock). pick_of s (second_super other)) first_super-same ∙ ap (λ (s : Option Superblock). pick_of (first_super img) s) second_super-same
+
+  -- so does the active superblock
+  pub active_super-same : active_super other ≡ active_super img
+  unfolding active_super
+  active_super-same =
+      ap (λ (s : Option Superblock). super_of_pick (pick_of s (second_super other)) s (second_super other)) first_super-same
+      ∙ ap (λ (s : Option Superblock). super_of_pick (pick_of (first_super img) s) (first_super img) s) second_super-same
+
+-- the superblock of the first area, where that is active
+pub active_super-first : (img : List ℕ) → active_area img ≡ picks.Active First → active_super img ≡ first_super img
+unfolding active_area active_super
+active_super-first img e = ap (λ p. super_of_pick p (first_super img) (second_super img)) e
+
+-- the superblock of the second area, where that is active
+pub active_super-second : (img : List ℕ) → active_area img ≡ picks.Active Second → active_super img ≡ second_super img
+unfolding active_area active_super
+active_super-second img e = ap (λ p. super_of_pick p (first_super img) (second_super img)) e
+
+-- of two superblocks the one that is picked is there
+IsSome-both : (same later : Bool) (a b : Superblock) (which : Which) → (if same then (if later then picks.Active Second else picks.Active First) else picks.Disagree) ≡ picks.Active which
+    → IsSome (super_of_pick (if same then (if later then picks.Active Second else picks.Active First) else picks.Disagree) (Some a) (Some b))
+IsSome-both true true a b which e = refl
+IsSome-both true false a b which e = refl
+IsSome-both false later a b which e = absurd (cc e)
+
+-- of any two the one that is picked is there
+IsSome-picked : (a b : Option Superblock) (which : Which) → pick_of a b ≡ picks.Active which → IsSome (super_of_pick (pick_of a b) a b)
+IsSome-picked None None which e = absurd (cc e)
+IsSome-picked (Some a) None which e = refl
+IsSome-picked None (Some b) which e = refl
+IsSome-picked (Some a) (Some b) which e = IsSome-both _ _ a b which e
+
+-- where an area is active, its superblock is there
+pub IsSome-active_super : (img : List ℕ) (which : Which) → active_area img ≡ picks.Active which → IsSome (active_super img)
+unfolding active_area active_super
+IsSome-active_super img which e = IsSome-picked (first_super img) (second_super img) which e
+
+-- two buffers are what the image has, where the second was read from the place that the first names
+pub are_read : (img first second : List ℕ) (len : ℕ) (place : Option ℕ) → len ≡ length img → first ≡ buffer_of (first_area img) → place ≡ searched_place len (first_read first len) → second ≡ buffer_of (option_and_then (λ at. area_at img at) place) → AreRead img first second
+are_read img first second len place long firsts searched seconds =
+    let named : first_read first len ≡ first_super img = ap (λ (n : ℕ). first_read first n) long ∙ ap (λ (bytes : List ℕ). first_read bytes (length img)) firsts ∙ valid_buffer (length img) (first_area img) in
+    record {
+      first_bytes = firsts;
+      second_bytes = seconds ∙ ap (λ (p : Option ℕ). buffer_of (option_and_then (λ at. area_at img at) p)) (searched ∙ ap (λ (n : ℕ). searched_place n (first_read first len)) long ∙ ap (λ (s : Option Superblock). searched_place (length img) s) named);
+    }
+
+-- the pick of what was read on a device of the image's length
+pub pick_of-read_at : (img first second : List ℕ) (len : ℕ) → len ≡ length img → AreRead img first second → pick_of (first_read first len) (second_read first second len) ≡ active_area img
+pick_of-read_at img first second len long read = ap (λ (n : ℕ). pick_of (first_read first n) (second_read first second n)) long ∙ pick_of-read img first second read
+
+-- a length that is told after two calls was told before them, and is the one that was given
+pub len_is : (before mid now : Option ℕ) (n len : ℕ) → StaysWhereTold before mid → StaysWhereTold mid now → now ≡ Some n → IfSome before (λ m. m ≡ len) → len ≡ n
+len_is before mid None n len first second told given = absurd (cc told)
+len_is before None (Some k) n len first second told given = absurd (cc second.same)
+len_is None (Some j) (Some k) n len first second told given = absurd (cc first.same)
+len_is (Some m) (Some j) (Some k) n len first second told given = cc (first.same, second.same, told, given)

@@ -1,0 +1,6 @@
+pub mod Bytewise
+pub mod LinearShifts
+pub mod TableEntries
+pub mod LongDivision
+pub mod ValidSuperblocks
+pub mod ActiveAreas

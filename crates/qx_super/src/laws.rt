@@ -1,0 +1,51 @@
+//! Laws of the definitions: what decides which area is active, and the checksums that the format works out.
+ghost use Rattle.std.specs.Prelude.{◌≡◌, ℕ, List, [], ◌∷◌, ◌++◌, length, replicate, IsSome};
+ghost use Rattle.qx_geom.specs.declared.area.Which.{Which};
+ghost use Rattle.qx_geom.specs.declared.area.Which.TheVariants as areas;
+ghost use Rattle.qx_super.specs.declared.choice.Pick.TheVariants as picks;
+ghost use Rattle.qx_super.specs.declared.superblock.SuperFault.TheVariants as faults;
+ghost use Rattle.qx_super.specs.Checksum.{checksum_of};
+ghost use Rattle.qx_super.specs.Superblock.{superblock_of};
+ghost use Rattle.qx_super.specs.Active.{AreRead, active_area, active_super, first_area, first_read, first_super, pick_of, second_area, second_read, second_super};
+
+/// Bytes 0 have the magic in neither order, so a buffer that stayed empty names no superblock.
+pub fn a_buffer_of_zeros_is_no_superblock()
+    ensures { (len : ℕ) → superblock_of (replicate 512 0) len ≡ Err faults.Magic }
+{}
+
+/// Two buffers of what the areas hold give the image's superblocks and its active area.
+pub fn what_was_read_decides()
+    ensures first { (img first second : List ℕ) → AreRead img first second
+        → first_read first (length img) ≡ first_super img }
+    ensures second { (img first second : List ℕ) → AreRead img first second
+        → second_read first second (length img) ≡ second_super img }
+    ensures active { (img first second : List ℕ) → AreRead img first second
+        → pick_of (first_read first (length img)) (second_read first second (length img)) ≡ active_area img }
+{}
+
+/// Of an image its length and its two areas decide, whatever its other bytes are.
+pub fn the_areas_decide()
+    ensures area { (img other : List ℕ) → length other ≡ length img
+        → first_area other ≡ first_area img → second_area other ≡ second_area img
+        → active_area other ≡ active_area img }
+    ensures superblock { (img other : List ℕ) → length other ≡ length img
+        → first_area other ≡ first_area img → second_area other ≡ second_area img
+        → active_super other ≡ active_super img }
+{}
+
+/// The active superblock is that of the active area, and it is there.
+pub fn the_active_superblock_is_its_areas()
+    ensures first { (img : List ℕ) → active_area img ≡ picks.Active areas.First
+        → active_super img ≡ first_super img }
+    ensures second { (img : List ℕ) → active_area img ≡ picks.Active areas.Second
+        → active_super img ≡ second_super img }
+    ensures there { (img : List ℕ) (which : Which) → active_area img ≡ picks.Active which
+        → IsSome (active_super img) }
+{}
+
+/// The checksums of 504 bytes that the format works out.
+pub fn the_checksum_of_few_bits()
+    ensures zeros { checksum_of (replicate 504 0) ≡ 0 }
+    ensures one { checksum_of (replicate 503 0 ++ 1 ∷ []) ≡ 0x04C11DB7 }
+    ensures two { checksum_of (replicate 503 0 ++ 2 ∷ []) ≡ 0x09823B6E }
+{}

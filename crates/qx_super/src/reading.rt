@@ -1,0 +1,72 @@
+//! Both areas of an image, read from a device.
+ghost use Rattle.std.specs.Prelude.{◌≡◌, ◌+◌, ◌≤◌, length, IfSome, IfOk, OnOk, IsTrue, option_and_then};
+ghost use Rattle.qx_super.specs.Active.{area_at, buffer_of, first_area, second_area, active_area, first_read, second_read, pick_of};
+ghost use Rattle.qx_outside.specs.Causes.{HasCause, StaysWhereTold};
+ghost use Rattle.qx_outside.specs.Calls.{Idles, LeavesConsole, ReadsAtMost};
+ghost use Rattle.qx_outside.specs.Trail.{bytes_of};
+
+use crate::Pick;
+use crate::active::{first_in, pick, place_to_search, second_in};
+use qx_outside::{Dev, Failed};
+
+/// The byte at which the first area stands, behind the boot area.
+const FIRST_PLACE: u64 = 0x2000;
+
+/// Fills the buffer with the 512 bytes at a place, or with 0 where the device lacks them.
+fn read_area<D: Dev>(
+    host: &mut D,
+    len: u64,
+    place: Option<u64>,
+    into: &mut [u8],
+) -> Result<(), Failed>
+    requires len { IfSome (D.extent host.old) (λ n. n ≡ len) }
+    requires into { length into.old ≡ 512 }
+    ensures bytes { OnOk result (IsTrue (D.tells host.new) → into.new ≡ buffer_of (option_and_then (λ at. area_at (bytes_of (D.history host.new)) at) place)) }
+    ensures step { Idles D.tells D.history host.old host.new }
+    ensures extent { StaysWhereTold (D.extent host.old) (D.extent host.new) }
+    ensures reads { ReadsAtMost D.dev_reads 1 host.old host.new }
+    ensures others { LeavesConsole D.attached D.con_faults host.old host.new }
+    ensures cause { HasCause (D.dev_faults host.old) (D.dev_faults host.new) result }
+{
+    match place {
+        Some(at) if len >= 512 && at <= len - 512 => host.read_at(at, into),
+        _ => {
+            into.fill(0);
+            Ok(())
+        }
+    }
+}
+
+/// Reads both areas into buffers of 512 bytes, and picks the active one. A buffer has 0 where the device lacks its area.
+/// `len` is the device's length in bytes.
+pub fn areas<D: Dev>(
+    host: &mut D,
+    len: u64,
+    first: &mut [u8],
+    second: &mut [u8],
+) -> Result<Pick, Failed>
+    requires len { IfSome (D.extent host.old) (λ n. n ≡ len) }
+    requires first { length first.old ≡ 512 }
+    requires second { length second.old ≡ 512 }
+
+    // What was read decides, whatever the device tells.
+    ensures pick { IfOk result (λ pick. pick ≡ pick_of (first_read first.new len) (second_read first.new second.new len)) }
+
+    // Where the device tells, that is what its bytes decide.
+    ensures active { IfOk result (λ pick. IsTrue (D.tells host.new) → pick ≡ active_area (bytes_of (D.history host.new))) }
+    ensures first { OnOk result (IsTrue (D.tells host.new) → first.new ≡ buffer_of (first_area (bytes_of (D.history host.new)))) }
+    ensures second { OnOk result (IsTrue (D.tells host.new) → second.new ≡ buffer_of (second_area (bytes_of (D.history host.new)))) }
+
+    ensures step { Idles D.tells D.history host.old host.new }
+    ensures extent { StaysWhereTold (D.extent host.old) (D.extent host.new) }
+    ensures reads { ReadsAtMost D.dev_reads 2 host.old host.new }
+    ensures others { LeavesConsole D.attached D.con_faults host.old host.new }
+    ensures cause { HasCause (D.dev_faults host.old) (D.dev_faults host.new) result }
+{
+    read_area(host, len, Some(FIRST_PLACE), first)?;
+    let first_super = first_in(first, len);
+    let place = place_to_search(first_super.as_ref(), len);
+    read_area(host, len, place, second)?;
+    let second_super = second_in(second, len, place);
+    Ok(pick(first_super.as_ref(), second_super.as_ref()))
+}

@@ -1,0 +1,64 @@
+//! Lines of text in place, without memory.
+ghost use Rattle.std.specs.Prelude.{◌≡◌, ◌+◌, ◌≤◌, ◌++◌, length, codes, decimal};
+ghost use Rattle.arrayvec.specs.ArrayString.{array_string_len};
+ghost use Rattle.qx_top.specs.Lines.{area_line, order_word};
+
+use arrayvec::ArrayString;
+use itoa::Buffer;
+use qx_fields::Order;
+use qx_geom::Which;
+use qx_super::SuperView;
+
+/// Room for the line about an area: 54 bytes of words, and five numbers that count as 20 digits each.
+pub type Line = ArrayString<160>;
+
+fn push_number(line: &mut Line, n: u64)
+    requires { array_string_len line.old + 20 ≤ 160 }
+    ensures bytes { line.new.bytes ≡ line.old.bytes ++ decimal n }
+    ensures short { array_string_len line.new ≤ array_string_len line.old + 20 }
+{
+    let mut buffer = Buffer::new();
+    line.push_str(buffer.format(n));
+}
+
+fn order_text(order: Order) -> &'static str
+    ensures text { result.now ≡ order_word order }
+    ensures short { length result.now ≤ 6 }
+{
+    match order {
+        Order::Little => "little",
+        Order::Big => "big",
+    }
+}
+
+/// The line about a superblock and the area in which it stands.
+#[tactic(auto, unfolding(crate::specs::Lines::area_line))]
+pub fn line_of_area(which: Which, view: &SuperView<'_>) -> Line
+    ensures { result.bytes ≡ area_line which view.now }
+{
+    let mut line = Line::new();
+    line.push_str("area ");
+    push_number(&mut line, u64::from(which.number()));
+    line.push_str(" serial ");
+    push_number(&mut line, view.serial());
+    line.push_str(" blocksize ");
+    push_number(&mut line, u64::from(view.blocksize()));
+    line.push_str(" blocks ");
+    push_number(&mut line, u64::from(view.num_blocks()));
+    line.push_str(" inodes ");
+    push_number(&mut line, u64::from(view.num_inodes()));
+    line.push_str(" order ");
+    line.push_str(order_text(view.order()));
+    line.push_str("\n");
+    line
+}
+
+/// A line of this text.
+pub fn line_of(text: &str) -> Line
+    requires { length text.now ≤ 160 }
+    ensures { result.bytes ≡ text.now }
+{
+    let mut line = Line::new();
+    line.push_str(text);
+    line
+}

@@ -1,0 +1,114 @@
+//! `chkqnx6fs -s IMAGE`: one line about the superblocks of an image.
+ghost use Rattle.std.specs.Prelude.{◌≡◌, ◌≢◌, ◌<◌, ◌≤◌, ◌∷◌, length, IfOk, IsTrue, false};
+ghost use Rattle.qx_outside.specs.Causes.{Becomes, HasCause, Rose};
+ghost use Rattle.qx_outside.specs.Calls.{Idles, LeavesConsole};
+ghost use Rattle.qx_outside.specs.Trail.{bytes_of};
+ghost use Rattle.qx_super.specs.Active.{pick_of, first_read, second_read};
+ghost use Rattle.qx_top.specs.Lines.{begins_big, report_of, report_read, supers_report};
+ghost use Rattle.qx_top.specs.Run.{code_of, ReportsSupers};
+
+use crate::Status;
+use crate::lines::{Line, line_of, line_of_area};
+use crate::top::say;
+use qx_fields::{Order, get32};
+use qx_outside::{Dev, Failed, Host};
+use qx_super::{MAGIC, Pick, SuperView, active_view, areas};
+
+/// The line for a device call that failed.
+const DEVICE_FAULT: &str = "device fault\n";
+
+/// What is to be said of an image, and how the run then ends.
+#[derive(Drop)]
+pub struct Report {
+    pub line: Line,
+    pub status: Status,
+}
+
+fn is_big(buffer: &[u8]) -> bool
+    requires { length buffer.now ≡ 512 }
+    ensures { result ≡ begins_big buffer.now }
+{
+    get32(Order::Big, buffer, 0) == MAGIC
+}
+
+/// The report on an image that can't be used.
+fn refused(text: &str) -> Report
+    requires { length text.now ≤ 160 }
+    ensures line { result.line.bytes ≡ text.now }
+    ensures status { result.status ≡ Status.BadImage }
+{
+    Report {
+        line: line_of(text),
+        status: Status::BadImage,
+    }
+}
+
+/// The report on a pick, and on the superblock of the area that was picked.
+fn report_on(pick: Pick, active: Option<SuperView<'_>>) -> Report
+    ensures line { result.line.bytes ≡ (report_of pick active.entry).text }
+    ensures status { result.status ≡ (report_of pick active.entry).status }
+    ensures of_image { code_of result.status < 3 }
+    ensures not_of_words { code_of result.status ≢ 1 }
+{
+    match (pick, active) {
+        (Pick::Active(which), Some(view)) => Report {
+            line: line_of_area(which, &view),
+            status: Status::Done,
+        },
+        (Pick::Disagree, _) => refused("disagree\n"),
+        _ => refused("no volume\n"),
+    }
+}
+
+/// The report on two areas that were read.
+#[tactic(auto, unfolding(crate::specs::Lines::report_read))]
+fn report_on_buffers(pick: Pick, first: &[u8], second: &[u8], len: u64) -> Report
+    requires first { length first.now ≡ 512 }
+    requires second { length second.now ≡ 512 }
+    requires pick { pick ≡ pick_of (first_read first.now len) (second_read first.now second.now len) }
+    ensures line { result.line.bytes ≡ (report_read first.now second.now len).text }
+    ensures status { result.status ≡ (report_read first.now second.now len).status }
+    ensures of_image { code_of result.status < 3 }
+    ensures not_of_words { code_of result.status ≢ 1 }
+{
+    // Numbers in big order are not read yet.
+    if is_big(first) || is_big(second) {
+        return refused("big order\n");
+    }
+    report_on(pick, active_view(pick, first, second, len))
+}
+
+/// The report on the superblocks of the device.
+fn report_on_device<D: Dev>(host: &mut D) -> Result<Report, Failed>
+    ensures line { IfOk result (λ report. IsTrue (D.tells host.new) → report.line.bytes ≡ (supers_report (bytes_of (D.history host.new))).text) }
+    ensures status { IfOk result (λ report. IsTrue (D.tells host.new) → report.status ≡ (supers_report (bytes_of (D.history host.new))).status) }
+    ensures of_image { IfOk result (λ report. code_of report.status < 3) }
+    ensures not_of_words { IfOk result (λ report. code_of report.status ≢ 1) }
+    ensures step { Idles D.tells D.history host.old host.new }
+    ensures others { LeavesConsole D.attached D.con_faults host.old host.new }
+    ensures cause { HasCause (D.dev_faults host.old) (D.dev_faults host.new) result }
+{
+    let len = host.len()?;
+    let mut first = [0; 512];
+    let mut second = [0; 512];
+    let pick = areas(host, len, &mut first, &mut second)?;
+    Ok(report_on_buffers(pick, &first, &second, len))
+}
+
+/// Attaches the image, and gives the line about its superblocks.
+pub fn report_supers<H: Host>(host: &mut H, image: &str) -> Status
+    ensures report { ReportsSupers H.tells H.history H.dev_faults (code_of result) host.old host.new }
+    ensures attached { Becomes (H.attached host.old) (H.attached host.new) (λ old new. new ≡ record { path = image.now; create = false } ∷ old) }
+    ensures not_of_words { code_of result ≢ 1 }
+    ensures exits { code_of result < 5 }
+    ensures device { code_of result ≡ 3 → Rose (H.dev_faults host.old) (H.dev_faults host.new) }
+    ensures console { code_of result ≡ 4 → Rose (H.con_faults host.old) (H.con_faults host.new) }
+{
+    if host.attach(image, false).is_err() {
+        return say(host, DEVICE_FAULT, Status::DeviceFault);
+    }
+    match report_on_device(host) {
+        Err(Failed) => say(host, DEVICE_FAULT, Status::DeviceFault),
+        Ok(report) => say(host, report.line.as_str(), report.status),
+    }
+}
