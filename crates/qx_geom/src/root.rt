@@ -1,6 +1,6 @@
 //! What a node is on disk.
 
-/// The pointer that points at no block, as the kernel's qnx6 document has it.
+/// The pointer that points at no block, as the format writes it (`qnx6_fs.h`).
 pub const ABSENT: u32 = 0xFFFF_FFFF;
 
 /// A node on disk: where its bytes stand (`struct qnx6_root_node` of `qnx6_fs.h`).

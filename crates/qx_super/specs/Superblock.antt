@@ -4,6 +4,7 @@ use Rattle.qx_fields.specs.declared.order.Order.{Order}
 use Rattle.qx_fields.specs.declared.order.Order.TheVariants.{Little, Big}
 use Rattle.qx_fields.specs.Number.{field}
 use Rattle.qx_geom.specs.declared.root.Root.{Root}
+use Rattle.qx_geom.specs.Layout.{is_block_size}
 use Rattle.qx_super.specs.Checksum.{checksum_of}
 use Rattle.qx_super.specs.RootNode.{root_of}
 use Rattle.qx_super.specs.declared.superblock.RootName.{RootName}
@@ -59,10 +60,6 @@ root_named s Fourth = s.fourth
 -- the order in which the magic stands
 unfoldable pub order_of : List ℕ → Option Order
 order_of bytes = if field Little 4 bytes 0 == 0x68191122 then Some Little else (if field Big 4 bytes 0 == 0x68191122 then Some Big else None)
-
--- a block size of the format
-abbrev pub is_block_size : ℕ → Bool
-is_block_size n = (n == 512) || (n == 1024) || (n == 2048) || (n == 4096)
 
 -- the byte at which the second area stands, behind the last block
 abbrev pub second_place_of : Superblock → ℕ

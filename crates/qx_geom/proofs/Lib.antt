@@ -1,0 +1,13 @@
+pub mod Truths
+pub mod Members
+pub mod DistinctElements
+pub mod ImagesAndFilters
+pub mod AscendingLists
+pub mod PresentLeaves
+pub mod LeastTouch
+pub mod UnchangedNode
+pub mod BlockSizes
+pub mod LeastLevels
+pub mod LevelCounts
+pub mod VolumeNumbers
+pub mod SystemBlocks

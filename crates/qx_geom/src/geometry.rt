@@ -1,0 +1,234 @@
+//! The numbers of a volume, and where its system blocks stand.
+ghost use Rattle.std.specs.Prelude.{◌≡◌};
+ghost use Rattle.qx_geom.specs.Layout.{whole_length};
+
+use crate::tree::SystemTree;
+use crate::{ABSENT, Root, Which};
+use thiserror::Error;
+
+/// The bounds on the inodes and the blocks of a volume (this project's own).
+const MIN_INODES: u32 = 16;
+
+const MAX_INODES: u32 = 1 << 20;
+
+const MAX_BLOCKS: u64 = 1 << 28;
+
+/// Why numbers are those of no volume.
+#[derive(Clone, Copy, Debug, PartialEq, Eq, Error)]
+pub enum GeomFault {
+    /// The block size is none of 512, 1024, 2048 and 4096 bytes.
+    #[error("the block size is none of 512, 1024, 2048 and 4096")]
+    BlockSize,
+    /// The device has no room for both halves and 17 more blocks.
+    #[error("the device is too short")]
+    TooShort,
+    /// The device has room for more than 2^28 blocks.
+    #[error("the device is too large")]
+    TooLarge,
+    /// There would be fewer than 16 inodes, or more than 1,048,576.
+    #[error("the number of inodes is below 16 or above 1048576")]
+    Inodes,
+}
+
+/// The numbers of a volume. Sizes and rules are this project's own, but for the places of the areas and of block 0 (`qnx6_fs.h`).
+#[derive(Clone, Copy, Debug, PartialEq, Eq)]
+pub struct Geometry {
+    /// The device's length in bytes, without what lies past the last whole 4096.
+    pub len4: u64,
+    /// Bytes of a block.
+    pub blocksize: u32,
+    pub num_blocks: u32,
+    pub num_inodes: u32,
+    /// Blocks of a half's bitmap, and of the pointers above them.
+    pub bitmap_leaves: u32,
+    pub bitmap_pointers: u32,
+    /// Blocks of a half's inode table, and of the pointers above them.
+    pub inode_leaves: u32,
+    pub inode_pointers: u32,
+    /// Blocks of a half.
+    pub half: u32,
+}
+
+impl Geometry {
+    ghost use Rattle.std.specs.Prelude.{◌≡◌, ◌<◌, ◌≤◌, ◌^◌, IfOk, IsTrue};
+    ghost use Rattle.qx_geom.specs.Layout.{IsGeometry, IsPointerBlock, area_place, block_place, blocks_in, geometry_of, is_block_size, numbers_of, system_root_of, system_word_of, tree_base, tree_leaves, tree_size, user_blocks};
+    ghost use Rattle.qx_geom.specs.Pointer.{per_block};
+
+    /// The numbers of a volume on a device of `len` bytes. The tests come in the order block size, inodes, too short, too large.
+    #[tactic(auto, using(std::proofs::lemmas::Bool::Decides::nat_tests), unfolding(crate::specs::Layout::geometry_of))]
+    pub fn new(len: u64, blocksize: u32, inodes: u32) -> Result<Geometry, GeomFault>
+        ensures numbers { result ≡ geometry_of len blocksize inodes }
+        ensures geometry { IfOk result IsGeometry }
+    {
+        if !matches!(blocksize, 512 | 1024 | 2048 | 4096) {
+            return Err(GeomFault::BlockSize);
+        }
+        if inodes < MIN_INODES || MAX_INODES < inodes {
+            return Err(GeomFault::Inodes);
+        }
+        let len4 = rounded_down(len);
+        if len4 < 0x4000 {
+            return Err(GeomFault::TooShort);
+        }
+        let blocks = (len4 - 0x4000) / u64::from(blocksize);
+        if blocks > MAX_BLOCKS {
+            // So many blocks have room for both halves: the device isn't too short.
+            return Err(GeomFault::TooLarge);
+        }
+        let geometry = Geometry::with_blocks(len, blocksize, blocks as u32, inodes);
+        if geometry.num_blocks < 2 * geometry.half + 17 {
+            return Err(GeomFault::TooShort);
+        }
+        Ok(geometry)
+    }
+
+    /// The byte at which an area stands.
+    pub fn area(&self, which: Which) -> u64
+        requires { IsGeometry self.now }
+        ensures { result ≡ area_place self.now which }
+    {
+        match which {
+            Which::First => 0x2000,
+            Which::Second => 0x3000 + u64::from(self.num_blocks) * u64::from(self.blocksize),
+        }
+    }
+
+    /// The byte at which a block stands.
+    pub fn place(&self, b: u32) -> u64
+        requires geometry { IsGeometry self.now }
+        requires block { b < self.now.num_blocks }
+        ensures { result ≡ block_place self.now b }
+    {
+        0x3000 + u64::from(b) * u64::from(self.blocksize)
+    }
+
+    /// How many blocks are no half's.
+    pub fn user(&self) -> u32
+        requires { IsGeometry self.now }
+        ensures { result ≡ user_blocks self.now }
+    {
+        self.num_blocks - 2 * self.half
+    }
+
+    /// The Bitmap root node of an area, or its Inode root node.
+    pub fn system_root(&self, which: Which, bitmap: bool) -> Root
+        requires { IsGeometry self.now }
+        ensures { result ≡ system_root_of self.now which bitmap }
+    {
+        let tree = self.tree(bitmap);
+        let base = self.base(which, bitmap);
+        let levels = tree.levels();
+        let mut pointers = [ABSENT; 16];
+        for (index, pointer) in pointers.iter_mut().enumerate() {
+            *pointer = tree.pointer(base, levels, index as u32);
+        }
+        Root {
+            size: self.size(bitmap),
+            pointers,
+            levels,
+        }
+    }
+
+    /// A word of a pointer block of one of the four system trees.
+    pub fn system_word(&self, which: Which, bitmap: bool, block: u32, word: u32) -> u32
+        requires geometry { IsGeometry self.now }
+        requires block { IsPointerBlock self.now which bitmap block }
+        requires word { word < per_block self.now.blocksize }
+        ensures { result ≡ system_word_of self.now which bitmap block word }
+    {
+        let tree = self.tree(bitmap);
+        let base = self.base(which, bitmap);
+        let place = tree.place(block - base - tree.leaves);
+        tree.pointer(
+            base,
+            place.level - 1,
+            place.index * (self.blocksize / 4) + word,
+        )
+    }
+
+    /// The numbers, where the device has so many blocks.
+    fn with_blocks(len: u64, blocksize: u32, blocks: u32, inodes: u32) -> Geometry
+        requires blocksize { IsTrue (is_block_size blocksize) }
+        requires blocks { blocks ≡ blocks_in len blocksize }
+        requires few { blocks ≤ 2 ^ 28 }
+        requires inodes { inodes ≤ 1048576 }
+        ensures numbers { result ≡ numbers_of len blocksize inodes }
+        ensures half { result.half < 2 ^ 28 }
+    {
+        let bitmap = SystemTree {
+            blocksize,
+            leaves: blocks.div_ceil(8).div_ceil(blocksize),
+        };
+        let table = SystemTree {
+            blocksize,
+            leaves: (inodes * 128).div_ceil(blocksize),
+        };
+        let bitmap_blocks = bitmap.blocks();
+        let table_blocks = table.blocks();
+        Geometry {
+            len4: rounded_down(len),
+            blocksize,
+            num_blocks: blocks,
+            num_inodes: inodes,
+            bitmap_leaves: bitmap.leaves,
+            bitmap_pointers: bitmap_blocks - bitmap.leaves,
+            inode_leaves: table.leaves,
+            inode_pointers: table_blocks - table.leaves,
+            half: bitmap_blocks + table_blocks,
+        }
+    }
+
+    /// The tree over a half's bitmap, or over its inodes.
+    fn tree(&self, bitmap: bool) -> SystemTree
+        requires { IsGeometry self.now }
+        ensures blocksize { result.blocksize ≡ self.now.blocksize }
+        ensures leaves { result.leaves ≡ tree_leaves self.now bitmap }
+    {
+        SystemTree {
+            blocksize: self.blocksize,
+            leaves: if bitmap {
+                self.bitmap_leaves
+            } else {
+                self.inode_leaves
+            },
+        }
+    }
+
+    /// The first block of that tree in an area's half.
+    fn base(&self, which: Which, bitmap: bool) -> u32
+        requires { IsGeometry self.now }
+        ensures { result ≡ tree_base self.now which bitmap }
+    {
+        let first = match which {
+            Which::First => 0,
+            Which::Second => self.half,
+        };
+        if bitmap {
+            first
+        } else {
+            first + self.bitmap_leaves + self.bitmap_pointers
+        }
+    }
+
+    /// The bytes of a half's bitmap, or of its inodes.
+    fn size(&self, bitmap: bool) -> u64
+        requires { IsGeometry self.now }
+        ensures { result ≡ tree_size self.now bitmap }
+    {
+        if bitmap {
+            u64::from(self.num_blocks).div_ceil(8)
+        } else {
+            u64::from(self.num_inodes) * 128
+        }
+    }
+}
+
+/// The length, without what lies past the last whole 4096 bytes.
+fn rounded_down(len: u64) -> u64
+    ensures { result ≡ whole_length len }
+{
+    len / 4096 * 4096
+}
+
+#[cfg(test)]
+mod tests;

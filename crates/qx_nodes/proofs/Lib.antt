@@ -1,0 +1,5 @@
+pub mod VisitLocality
+pub mod LeafPaths
+pub mod ContentLocality
+pub mod DistinctPositions
+pub mod MetLeaves

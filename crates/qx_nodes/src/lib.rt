@@ -1,0 +1,14 @@
+//! Nodes: what the pointers of a node lead to, and what it holds.
+//!
+//! Stands on `qx_fields` for numbers and `qx_geom` for its types; records, trees and their changes stand on it.
+//! Its contract: the definitions of `specs/Visits.antt`, `Leaves.antt` and `Content.antt`, and the laws below about them.
+//! It keeps no state, takes no memory and has no code that runs.
+#![tactic(auto)]
+
+mod laws;
+
+pub use laws::{
+    a_leaf_by_its_path_is_met, a_leaf_that_is_met_is_on_its_path, no_position_is_met_twice,
+    present_leaves_ascend, what_is_met_decides_content, what_is_met_decides_itself,
+    what_is_met_decides_leaves,
+};

@@ -1,0 +1,4 @@
+pub use Rattle.qx_fields.specs.Number
+pub mod NameSum
+pub mod InodeRecord
+pub mod NameRecord

@@ -1,0 +1,13 @@
+pub mod TreeLocality
+pub mod OneTree
+pub mod TestOrder
+pub mod WalkEnds
+pub mod PassingTests
+pub mod TakenInodes
+pub mod TreeFound
+pub mod TreeFromTests
+pub mod ApartPositions
+pub mod TestsFromTree
+pub mod TestsAndTree
+pub mod ImageTrees
+pub mod Verdicts

@@ -1,0 +1,159 @@
+-- The roots determine the tree.
+use Rattle.std.proofs.Common.{◌≡◌, ℕ, suc, List, [], ◌∷◌, length, refl, sym, ◌∙◌, ap, subst, arith}
+use Rattle.std.specs.Prelude.{Option, Some, None, map, slice_get}
+use Rattle.qx_geom.specs.declared.root.Root.{Root}
+use Rattle.qx_records.specs.declared.kind.Kind.{Kind}
+use Rattle.qx_records.specs.declared.kind.Kind.TheVariants as kinds
+use Rattle.qx_model.specs.Tree.{Body, Directory, Entry, File, IsDirectoryIn, Link, Names, Reached, Slot, Special, Tree, down, entry_of, flat, slots_of_entry, top}
+use Rattle.qx_nodes.specs.BlockMap.{BlockMap}
+use Rattle.qx_records.specs.InodeRecord.{kind_of}
+use Rattle.qx_view.specs.Images.{Roots, inode_of}
+use Rattle.qx_view.specs.Reading.{IsBody, IsEntry, IsNode, IsOfKind, IsTreeOf}
+
+-- lists whose present elements are alike
+somes_same : {A : Type 0} (xs ys : List A) → map (λ x. Some x) xs ≡ map (λ x. Some x) ys → xs ≡ ys
+somes_same [] [] e = refl
+somes_same [] (y ∷ ys) e = absurd (cc)
+somes_same (x ∷ xs) [] e = absurd (cc)
+somes_same (x ∷ xs) (y ∷ ys) e =
+    let head : x ≡ y = cc in
+    let rest : map (λ x. Some x) xs ≡ map (λ x. Some x) ys = cc in
+    λ i. head i ∷ somes_same xs ys rest i
+
+-- the parents of two bodies, where both are directories
+abbrev SameParent : Body → Body → Type 0
+SameParent a b = (s u : List Slot) (p q : ℕ) → a ≡ Directory s p → b ≡ Directory u q → p ≡ q
+
+-- a node and a parent determine what it holds
+body_same : (m : BlockMap) (longfile node : Root) (kind : Kind) (a b : Body) → SameParent a b → IsBody m longfile node kind a → IsBody m longfile node kind b → a ≡ b
+body_same m longfile node kinds.Directory (Directory s p) (Directory u q) same x y =
+    let slots : s ≡ u = somes_same s u (sym x ∙ y) in
+    λ i. Directory (slots i) (same s u p q refl refl i)
+body_same m longfile node kinds.Directory (Directory s p) (File c) same x y = absurd y
+body_same m longfile node kinds.Directory (Directory s p) (Link c) same x y = absurd y
+body_same m longfile node kinds.Directory (Directory s p) Special same x y = absurd y
+body_same m longfile node kinds.Directory (File c) b same x y = absurd x
+body_same m longfile node kinds.Directory (Link c) b same x y = absurd x
+body_same m longfile node kinds.Directory Special b same x y = absurd x
+body_same m longfile node kinds.File (File c) (File d) same x y = ap (λ z. File z) (x ∙ sym y)
+body_same m longfile node kinds.File (File c) (Directory u q) same x y = absurd y
+body_same m longfile node kinds.File (File c) (Link d) same x y = absurd y
+body_same m longfile node kinds.File (File c) Special same x y = absurd y
+body_same m longfile node kinds.File (Directory s p) b same x y = absurd x
+body_same m longfile node kinds.File (Link c) b same x y = absurd x
+body_same m longfile node kinds.File Special b same x y = absurd x
+body_same m longfile node kinds.Link (Link c) (Link d) same x y = ap (λ z. Link z) (x.0 ∙ sym y.0)
+body_same m longfile node kinds.Link (Link c) (Directory u q) same x y = absurd y
+body_same m longfile node kinds.Link (Link c) (File d) same x y = absurd y
+body_same m longfile node kinds.Link (Link c) Special same x y = absurd y
+body_same m longfile node kinds.Link (Directory s p) b same x y = absurd x
+body_same m longfile node kinds.Link (File c) b same x y = absurd x
+body_same m longfile node kinds.Link Special b same x y = absurd x
+body_same m longfile node kinds.Special (Directory s p) b same x y = absurd x
+body_same m longfile node kinds.Special (File c) b same x y = absurd x
+body_same m longfile node kinds.Special (Link c) b same x y = absurd x
+body_same m longfile node kinds.Special Special b same x y = absurd x
+
+-- and the entry, beside its attributes
+node_same : (m : BlockMap) (longfile node : Root) (kind : Kind) (a b : Entry) → a.attr ≡ b.attr → SameParent a.body b.body → IsNode m longfile node kind a → IsNode m longfile node kind b → a ≡ b
+node_same m longfile node kind a b attr same x y =
+    let size : a.size ≡ b.size = x.size ∙ sym y.size in
+    let present : a.present ≡ b.present = x.present ∙ sym y.present in
+    let body : a.body ≡ b.body = body_same m longfile node kind a.body b.body same x.body y.body in
+    λ i. record { attr = attr i; size = size i; present = present i; body = body i }
+
+-- of any kind
+kind_same : (m : BlockMap) (longfile node : Root) (kind : Kind) (a b : Entry) → a.attr ≡ b.attr → SameParent a.body b.body → IsOfKind m longfile node kind a → IsOfKind m longfile node kind b → a ≡ b
+kind_same m longfile node kinds.Special a b attr same x y =
+    let size : a.size ≡ b.size = x.size ∙ sym y.size in
+    let present : a.present ≡ b.present = x.present ∙ sym y.present in
+    let body : a.body ≡ b.body = x.body ∙ sym y.body in
+    λ i. record { attr = attr i; size = size i; present = present i; body = body i }
+kind_same m longfile node kinds.Directory a b attr same x y = node_same m longfile node kinds.Directory a b attr same x y
+kind_same m longfile node kinds.File a b attr same x y = node_same m longfile node kinds.File a b attr same x y
+kind_same m longfile node kinds.Link a b attr same x y = node_same m longfile node kinds.Link a b attr same x y
+
+-- an inode and a parent determine the entry
+entry_same : (m : BlockMap) (r : Roots) (n : ℕ) (a b : Entry) → SameParent a.body b.body → IsEntry m r n a → IsEntry m r n b → a ≡ b
+entry_same m r n a b same x y =
+    let attr : a.attr ≡ b.attr = x.attr ∙ sym y.attr in
+    let both : Some x.kind ≡ Some y.kind = sym x.kind_is ∙ ap (λ c. kind_of c.mode) attr ∙ y.kind_is in
+    let kind : x.kind ≡ y.kind = cc in
+    kind_same m r.longfile (inode_of m r.inodes n).root y.kind a b attr same (subst (λ k. IsOfKind m r.longfile (inode_of m r.inodes n).root k a) kind x.holds) y.holds
+
+-- a directory has one parent
+pub parent_same : (t : Tree) (d p q : ℕ) → IsDirectoryIn t d p → IsDirectoryIn t d q → p ≡ q
+parent_same t d p q (e, slots, at, body) (e', slots', at', body') = cc
+
+-- what an inode that both trees reach is in both
+record SameAt (t u : Tree) (n : ℕ) : Type 0 where
+  pub entry : Entry
+  pub left : entry_of t n ≡ Some entry
+  pub right : entry_of u n ≡ Some entry
+  pub reached : Reached u n
+
+-- rows of one entry name the same in both trees
+names_over : (t u : Tree) (d n : ℕ) → entry_of t d ≡ entry_of u d → Names t d n → Names u d n
+names_over t u d n same (k, (s, at, named)) = (k, (s, subst (λ o. slice_get (slots_of_entry o) k ≡ Some s) same at, named))
+
+module _ (m : BlockMap) (r : Roots) (t u : Tree) (is : IsTreeOf m r t) (also : IsTreeOf m r u) where
+  -- the parent of what d names is d, in a tree
+  parent_is : (x : Tree) → IsTreeOf m r x → (d n p : ℕ) → Names x d n → IsDirectoryIn x n p → p ≡ d
+  parent_is x y d n p (k, at) dir =
+      let up : Names x p n = y.rooted.parent n p dir (λ e. y.rooted.no_top d (subst (λ z. Names x d z) e (k, at))) in
+      (y.rooted.once p up.0 d k n p up.1 at dir).0
+
+  -- an inode that the first tree reaches is the same in the second
+  same_at : (n : ℕ) → Reached t n → SameAt t u n
+  same_at n top =
+      let a : (e : Entry) × (entry_of t 1 ≡ Some e) = is.rooted.closed 1 top in
+      let b : (e : Entry) × (entry_of u 1 ≡ Some e) = also.rooted.closed 1 top in
+      let same : a.0 ≡ b.0 = entry_same m r 1 a.0 b.0
+      (λ s v p q xs ys. parent_same t 1 p 1 (a.0, s, a.1, xs) is.rooted.top ∙ sym (parent_same u 1 q 1 (b.0, v, b.1, ys) also.rooted.top))
+      (is.each 1 a.0 a.1) (also.each 1 b.0 b.1) in
+      record { entry = a.0; left = a.1; right = b.1 ∙ ap (λ e. Some e) (sym same); reached = top }
+  same_at n (down {d} rd names) =
+      let above : SameAt t u d = same_at d rd in
+      let names' : Names u d n = names_over t u d n (above.left ∙ sym above.right) names in
+      let there : Reached u n = down above.reached names' in
+      let a : (e : Entry) × (entry_of t n ≡ Some e) = is.rooted.closed n (down rd names) in
+      let b : (e : Entry) × (entry_of u n ≡ Some e) = also.rooted.closed n there in
+      let same : a.0 ≡ b.0 = entry_same m r n a.0 b.0
+      (λ s v p q xs ys. parent_is t is d n p names (a.0, s, a.1, xs) ∙ sym (parent_is u also d n q names' (b.0, v, b.1, ys)))
+      (is.each n a.0 a.1) (also.each n b.0 b.1) in
+      record { entry = a.0; left = a.1; right = b.1 ∙ ap (λ e. Some e) (sym same); reached = there }
+
+-- an option, by whether it is there
+option_cases : {A : Type 0} (P : Option A → Type 0) (o : Option A) → (o ≡ None → P None) → ((x : A) → o ≡ Some x → P (Some x)) → P o
+option_cases P None none some = none refl
+option_cases P (Some x) none some = some x refl
+
+-- places with the same entries are one list
+places_same : (xs ys : List (Option Entry)) → length xs ≡ length ys → ((n : ℕ) → flat (slice_get xs n) ≡ flat (slice_get ys n)) → xs ≡ ys
+places_same [] [] e same = refl
+places_same [] (y ∷ ys) e same = absurd (omega (arith, e))
+places_same (x ∷ xs) [] e same = absurd (omega (arith, e))
+places_same (x ∷ xs) (y ∷ ys) e same = λ i. same 0 i ∷ places_same xs ys (omega (arith, e)) (λ n. same (suc n)) i
+
+module _ (m : BlockMap) (r : Roots) (t u : Tree) (is : IsTreeOf m r t) (also : IsTreeOf m r u) where
+  -- both trees have the same entry at each number
+  entries_same : (n : ℕ) → entry_of t n ≡ entry_of u n
+  entries_same n =
+      option_cases (λ o. entry_of t n ≡ o → o ≡ entry_of u n) (entry_of t n)
+      (λ none e. option_cases (λ o. entry_of u n ≡ o → None ≡ o) (entry_of u n) (λ _ _. refl)
+      (λ x here _. let back : SameAt u t n = same_at m r u t also is n (also.rooted.reached n x here) in
+      absurd (none_some (sym none ∙ back.right))) refl)
+      (λ x here e. let both : SameAt t u n = same_at m r t u is also n (is.rooted.reached n x here) in sym here ∙ both.left ∙ sym both.right)
+      refl
+    where
+      none_some : {A : Type 0} {x : A} → None ≡ Some x → ⊥
+      none_some e = cc
+
+  -- two trees at the same roots are one
+  pub tree_unique : t ≡ u
+  tree_unique =
+      let inodes : t.inodes ≡ u.inodes = places_same t.inodes u.inodes (is.places ∙ sym also.places) (λ n. entries_same (suc n)) in
+      let long_size : t.long_size ≡ u.long_size = is.long_size ∙ sym also.long_size in
+      let long_names : t.long_names ≡ u.long_names = is.long_names ∙ sym also.long_names in
+      let long_present : t.long_present ≡ u.long_present = is.long_present ∙ sym also.long_present in
+      λ i. record { inodes = inodes i; long_size = long_size i; long_names = long_names i; long_present = long_present i }

@@ -1,0 +1,138 @@
+-- Small volumes on which the definitions are computed.
+use Rattle.std.specs.Prelude.{ℕ, ◌-◌, ◌*◌, ◌^◌, List, [], ◌∷◌, ◌++◌, flat_map, length, replicate, ◌==◌, ◌||◌, if◌then◌else◌}
+use Rattle.qx_fields.specs.declared.order.Order.TheVariants.{Little}
+use Rattle.qx_fields.specs.Number.{digits}
+use Rattle.qx_geom.specs.declared.root.Root.{Root}
+use Rattle.qx_geom.specs.Pointer.{absent}
+use Rattle.qx_nodes.specs.BlockMap.{BlockMap}
+use Rattle.qx_super.specs.Superblock.{Superblock}
+use Rattle.qx_view.specs.Images.{Roots}
+
+-- ---- records
+
+-- bytes with 0 behind them, so many in all
+abbrev pub filled : ℕ → List ℕ → List ℕ
+filled count bytes = bytes ++ replicate (count - length bytes) 0
+
+-- an inode of this size, mode, levels and status, whose first pointers are these
+abbrev pub inode_bytes_with : ℕ → ℕ → ℕ → ℕ → List ℕ → List ℕ
+inode_bytes_with size mode levels status pointers =
+    filled 128 (digits Little 8 size ++ replicate 24 0 ++ digits Little 2 mode ++ 0 ∷ 0 ∷ []
+    ++ flat_map (λ p. digits Little 4 p) pointers ++ replicate (64 - 4 * length pointers) 255 ++ levels ∷ status ∷ [])
+
+-- a directory of one block of 512 bytes
+abbrev pub directory_bytes : ℕ → List ℕ
+directory_bytes block = inode_bytes_with 512 0x41ED 0 1 (block ∷ [])
+
+-- a short row
+abbrev pub row_bytes : ℕ → List ℕ → List ℕ
+row_bytes n name = filled 32 (digits Little 4 n ++ length name ∷ [] ++ name)
+
+-- a node without levels that has this pointer alone
+abbrev pub one_pointer : ℕ → ℕ → Root
+one_pointer size pointer = record { size = size; pointers = pointer ∷ replicate 15 absent; levels = 0 }
+
+-- blocks of 512 bytes in little order
+abbrev pub blocks_of : ℕ → (ℕ → List ℕ) → BlockMap
+blocks_of count bytes = record { order = Little; size = 512; count = count; bytes = bytes }
+
+-- ---- two directories
+
+-- the rows of a directory and its parent
+abbrev pub dots_bytes : ℕ → ℕ → List ℕ
+dots_bytes d p = row_bytes d (46 ∷ []) ++ row_bytes p (46 ∷ 46 ∷ [])
+
+-- the inodes in block 2: the top directory in block 3, whose row `d` names inode n, and a directory in this block
+abbrev pub two_directories : ℕ → ℕ → BlockMap
+two_directories n block = blocks_of 8 (λ b.
+    if b == 2 then filled 512 (directory_bytes 3 ++ directory_bytes block)
+    else if b == 3 then filled 512 (dots_bytes 1 1 ++ row_bytes n (100 ∷ []))
+    else if b == 4 then filled 512 (dots_bytes 2 1)
+    else replicate 512 0)
+
+-- where its tree begins
+abbrev pub small_roots : Roots
+small_roots = record { inodes = one_pointer 512 2; longfile = one_pointer 0 absent; beside = one_pointer 1 1 ∷ [] }
+
+-- ---- a directory of 2^48 bytes under 5 levels
+
+-- with this in block 3, its first pointer block
+abbrev pub vast_directory : List ℕ → BlockMap
+vast_directory first = blocks_of 8 (λ b.
+    if b == 2 then filled 512 (inode_bytes_with (2 ^ 48) 0x41ED 5 1 (3 ∷ []))
+    else if b == 3 then filled 512 first
+    else replicate 512 0)
+
+-- ---- what the maker writes on a device of 65536 bytes: 96 blocks, halves of 5 blocks, and the top directory in block 10
+
+-- a bitmap with this second byte
+abbrev pub bitmap_bytes : ℕ → List ℕ
+bitmap_bytes second = 255 ∷ second ∷ [] ++ replicate 10 0 ++ replicate 500 255
+
+-- block b
+abbrev pub made_block : ℕ → List ℕ
+made_block b =
+    if (b == 0) || (b == 5) then bitmap_bytes 7
+    else if (b == 1) || (b == 6) then filled 512 (directory_bytes 10)
+    else if b == 10 then filled 512 (dots_bytes 1 1)
+    else replicate 512 0
+
+-- block b, where others have these bytes
+abbrev pub changed_block : List (ℕ × List ℕ) → ℕ → List ℕ
+changed_block [] b = made_block b
+changed_block (c ∷ cs) b = if c.0 == b then filled 512 c.1 else changed_block cs b
+
+-- all blocks, but for these
+abbrev pub made_but : List (ℕ × List ℕ) → BlockMap
+made_but changes = blocks_of 96 (changed_block changes)
+
+-- all blocks
+abbrev pub made_blocks : BlockMap
+made_blocks = made_but []
+
+-- the superblock of the second area
+abbrev pub made_super : Superblock
+made_super = record {
+  order = Little;
+  serial = 2;
+  ctime = 1000;
+  atime = 1000;
+  version1 = 1;
+  volume_id = replicate 16 0;
+  blocksize = 512;
+  num_inodes = 16;
+  free_inodes = 15;
+  num_blocks = 96;
+  free_blocks = 85;
+  inode = record { size = 2048; pointers = 6 ∷ 7 ∷ 8 ∷ 9 ∷ replicate 12 absent; levels = 0 };
+  bitmap = one_pointer 12 5;
+  longfile = one_pointer 0 absent;
+  fourth = one_pointer 0 absent;
+}
+
+-- ---- changes of it
+
+-- the blocks with more rows in the top directory
+abbrev pub with_rows : List ℕ → BlockMap
+with_rows rows = made_but ((10, dots_bytes 1 1 ++ rows) ∷ [])
+
+-- with another top inode
+abbrev pub with_top : List ℕ → BlockMap
+with_top inode = made_but ((6, inode) ∷ [])
+
+-- with this as inode 2, a row `f` that names it, and bytes in block 11
+abbrev pub with_second : List ℕ → List ℕ → BlockMap
+with_second inode bytes =
+    made_but ((6, directory_bytes 10 ++ inode) ∷ (10, dots_bytes 1 1 ++ row_bytes 2 (102 ∷ [])) ∷ (11, bytes) ∷ (5, bitmap_bytes 15) ∷ [])
+
+-- a long row of inode 1 with this number and checksum
+abbrev pub long_row_bytes : ℕ → ℕ → List ℕ
+long_row_bytes number sum = filled 32 (digits Little 4 1 ++ 255 ∷ 0 ∷ 0 ∷ 0 ∷ [] ++ digits Little 4 number ++ digits Little 4 sum)
+
+-- the blocks with such a row, and the long name `abc` in block 20
+abbrev pub with_long_row : ℕ → ℕ → BlockMap
+with_long_row number sum = made_but ((10, dots_bytes 1 1 ++ long_row_bytes number sum) ∷ (20, 3 ∷ 0 ∷ 97 ∷ 98 ∷ 99 ∷ []) ∷ [])
+
+-- where the tree begins if block 20 is the Longfile's first leaf
+abbrev pub long_roots : Roots
+long_roots = record { inodes = made_super.inode; longfile = one_pointer 512 20; beside = made_super.bitmap ∷ [] }

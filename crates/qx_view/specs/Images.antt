@@ -1,0 +1,73 @@
+-- The blocks of an image, and the records that stand in its nodes.
+use Rattle.std.specs.Prelude.{ℕ, ◌+◌, ◌*◌, ◌-◌, ◌^◌, ◌/◌, Bool, List, [], ◌∷◌, Option, None, nat_le, nat_lt, slice_range, if◌then◌else◌}
+use Rattle.qx_geom.specs.declared.root.Root.{Root}
+use Rattle.qx_geom.specs.Pointer.{absent}
+use Rattle.qx_nodes.specs.BlockMap.{BlockMap}
+use Rattle.qx_nodes.specs.Leaves.{Leaf, Block, Hole, Damage, leaf_of}
+use Rattle.qx_nodes.specs.Content.{piece_of}
+use Rattle.qx_records.specs.declared.inode.Inode.{Inode}
+use Rattle.qx_records.specs.InodeRecord.{inode_in}
+use Rattle.qx_records.specs.NameRecord.{RawRecord, raw_in, long_name_in}
+use Rattle.qx_super.specs.Superblock.{Superblock}
+
+-- the bytes of a block of an image
+abbrev pub block_bytes : List ℕ → ℕ → ℕ → List ℕ
+block_bytes img size b = slice_range img (0x3000 + b * size) (0x3000 + b * size + size)
+
+-- the blocks of an image whose active superblock this is
+abbrev pub image_blocks : List ℕ → Superblock → BlockMap
+image_blocks img s = record { order = s.order; size = s.blocksize; count = s.num_blocks; bytes = block_bytes img s.blocksize }
+
+-- where a tree begins: its Inode and Longfile root nodes, and the root nodes beside them
+pub record Roots : Type 0 where
+  pub inodes : Root
+  pub longfile : Root
+  pub beside : List Root
+
+-- the roots of the tree of a superblock
+abbrev pub main_roots : Superblock → Roots
+main_roots s = record { inodes = s.inode; longfile = s.longfile; beside = s.bitmap ∷ [] }
+
+-- how many inodes an Inode tree has places for: those within its size that a u32 can number
+abbrev pub places_in : Root → ℕ
+places_in inodes = if nat_lt (inodes.size / 128) (2 ^ 32) then inodes.size / 128 else 2 ^ 32 - 1
+
+-- how many places the Inode tree has
+abbrev pub inode_places : Roots → ℕ
+inode_places r = places_in r.inodes
+
+-- inode n has a place
+abbrev pub has_inode : Root → ℕ → Bool
+has_inode inodes n = nat_le n (places_in inodes)
+
+-- the 128 bytes of inode n
+abbrev pub inode_bytes : BlockMap → Root → ℕ → List ℕ
+inode_bytes m inodes n = piece_of m inodes ((n - 1) * 128) 128
+
+-- inode n
+abbrev pub inode_of : BlockMap → Root → ℕ → Inode
+inode_of m inodes n = inode_in m.order (inode_bytes m inodes n)
+
+-- record k of a directory; one in a hole is unused
+abbrev pub raw_of : BlockMap → Root → ℕ → RawRecord
+raw_of m node k = raw_in m.order (piece_of m node (k * 32) 32)
+
+-- the block at a leaf, or the absent pointer
+abbrev pub block_at_leaf : Leaf → ℕ
+block_at_leaf (Block b) = b
+block_at_leaf Hole = absent
+block_at_leaf Damage = absent
+
+-- the block that holds record k of a directory
+abbrev pub record_block : BlockMap → Root → ℕ → ℕ
+record_block m node k = block_at_leaf (leaf_of m node (k * 32 / m.size))
+
+-- the long name that a leaf has
+abbrev pub name_at_leaf : BlockMap → Leaf → Option (List ℕ)
+name_at_leaf m (Block b) = long_name_in m.order (m.bytes b)
+name_at_leaf m Hole = None
+name_at_leaf m Damage = None
+
+-- long name n, which is leaf n of the Longfile; none where the leaf is absent or its first byte lies past the size
+abbrev pub long_name : BlockMap → Root → ℕ → Option (List ℕ)
+long_name m longfile n = if nat_lt (n * m.size) longfile.size then name_at_leaf m (leaf_of m longfile n) else None

@@ -1,0 +1,9 @@
+pub use Rattle.qx_nodes.specs.BlockMap
+pub use Rattle.qx_nodes.specs.Content
+pub use Rattle.qx_super.specs.Active
+pub use Rattle.qx_model.specs.Tree
+pub mod Images
+pub mod Reading
+pub mod Walk
+pub mod Sound
+pub mod Examples

@@ -1,0 +1,97 @@
+//! The definitions computed on small volumes.
+ghost use Rattle.std.specs.Prelude.{◌≡◌, ℕ, List, ◌∷◌, [], ◌++◌, drop, replicate, take, Some, None};
+ghost use Rattle.qx_geom.specs.declared.area.Which.TheVariants as areas;
+ghost use Rattle.qx_view.specs.Images.{main_roots};
+ghost use Rattle.qx_view.specs.Walk.{finding_of, walked_inodes};
+ghost use Rattle.qx_view.specs.Sound.{last_finding, reason_of};
+ghost use Rattle.qx_view.specs.Examples.{bitmap_bytes, directory_bytes, dots_bytes, filled, inode_bytes_with, long_roots, made_blocks, made_but, made_super, one_pointer, row_bytes, small_roots, two_directories, vast_directory, with_long_row, with_rows, with_second, with_top};
+
+/// Two directories, whole and damaged: the walk's order and its finding.
+pub fn the_walk_of_two_directories()
+    ensures order { walked_inodes (two_directories 2 4) small_roots ≡ 1 ∷ 2 ∷ [] }
+    ensures whole { finding_of (two_directories 2 4) small_roots ≡ None }
+    ensures no_inode { finding_of (two_directories 5 4) small_roots ≡ Some (record { code = 4; inode = 1; block = 3 }) }
+    ensures twice { finding_of (two_directories 2 3) small_roots ≡ Some (record { code = 3; inode = 2; block = 3 }) }
+    ensures kind { finding_of (two_directories 3 4) small_roots ≡ Some (record { code = 5; inode = 1; block = 3 }) }
+    ensures cycle { finding_of (two_directories 1 4) small_roots ≡ Some (record { code = 13; inode = 1; block = 3 }) }
+{}
+
+/// A directory of 2^48 bytes whose pointers lead out of the volume, or round in it, is refused at once.
+pub fn the_walk_of_a_vast_directory()
+    ensures outside { finding_of (vast_directory (row_bytes 9 (46 ∷ []))) small_roots ≡ Some (record { code = 2; inode = 1; block = 9 }) }
+    ensures looping { finding_of (vast_directory []) small_roots ≡ Some (record { code = 3; inode = 1; block = 0 }) }
+{}
+
+/// The first failing test of a new volume with changes, code by code.
+pub fn the_findings_of_changed_volumes()
+    ensures levels { finding_of (with_top (inode_bytes_with 512 0x41ED 6 1 (10 ∷ []))) (main_roots made_super) ≡ Some (record { code = 1; inode = 1; block = 0xFFFFFFFF }) }
+    ensures large { finding_of (with_top (inode_bytes_with 8193 0x41ED 0 1 (10 ∷ []))) (main_roots made_super) ≡ Some (record { code = 1; inode = 1; block = 0xFFFFFFFF }) }
+    ensures past_the_blocks { finding_of (with_top (inode_bytes_with 512 0x41ED 0 1 (96 ∷ []))) (main_roots made_super) ≡ Some (record { code = 2; inode = 1; block = 96 }) }
+    ensures of_the_half { finding_of (with_top (directory_bytes 9)) (main_roots made_super) ≡ Some (record { code = 3; inode = 1; block = 9 }) }
+    ensures empty_link { finding_of (with_second (inode_bytes_with 0 0xA1FF 0 3 []) []) (main_roots made_super) ≡ Some (record { code = 6; inode = 2; block = 0xFFFFFFFF }) }
+    ensures short_link { finding_of (with_second (inode_bytes_with 1023 0xA1FF 0 3 (11 ∷ 12 ∷ [])) []) (main_roots made_super) ≡ None }
+    ensures long_link { finding_of (with_second (inode_bytes_with 1024 0xA1FF 0 3 (11 ∷ 12 ∷ [])) []) (main_roots made_super) ≡ Some (record { code = 6; inode = 2; block = 0xFFFFFFFF }) }
+    ensures special { finding_of (with_second (inode_bytes_with 0 0x21FF 0 3 (96 ∷ [])) []) (main_roots made_super) ≡ None }
+    ensures bad_length { finding_of (with_rows (filled 32 (1 ∷ 0 ∷ 0 ∷ 0 ∷ 28 ∷ []))) (main_roots made_super) ≡ Some (record { code = 7; inode = 1; block = 10 }) }
+    ensures unused { finding_of (with_rows (filled 32 (0 ∷ 0 ∷ 0 ∷ 0 ∷ 28 ∷ []))) (main_roots made_super) ≡ None }
+    ensures no_long_name { finding_of (with_long_row 0 0x400000AC) (main_roots made_super) ≡ Some (record { code = 8; inode = 1; block = 10 }) }
+    ensures past_the_long_names { finding_of (with_long_row 1 0x400000AC) long_roots ≡ Some (record { code = 8; inode = 1; block = 10 }) }
+    ensures other_sum { finding_of (with_long_row 0 0x400000AD) long_roots ≡ Some (record { code = 9; inode = 1; block = 10 }) }
+    ensures right_sum { finding_of (with_long_row 0 0x400000AC) long_roots ≡ Some (record { code = 13; inode = 1; block = 10 }) }
+    ensures slash { finding_of (with_rows (row_bytes 1 (97 ∷ 47 ∷ []))) (main_roots made_super) ≡ Some (record { code = 11; inode = 1; block = 10 }) }
+    ensures same_name { finding_of (with_rows (row_bytes 1 (46 ∷ []))) (main_roots made_super) ≡ Some (record { code = 10; inode = 1; block = 10 }) }
+    ensures other_dot { finding_of (made_but ((10, dots_bytes 2 1) ∷ [])) (main_roots made_super) ≡ Some (record { code = 12; inode = 1; block = 10 }) }
+    ensures other_dots { finding_of (made_but ((10, dots_bytes 1 2) ∷ [])) (main_roots made_super) ≡ Some (record { code = 12; inode = 1; block = 10 }) }
+    ensures past_the_inodes { finding_of (with_rows (row_bytes 17 (97 ∷ []))) (main_roots made_super) ≡ Some (record { code = 4; inode = 1; block = 10 }) }
+    ensures no_kind { finding_of (with_rows (row_bytes 16 (97 ∷ []))) (main_roots made_super) ≡ Some (record { code = 5; inode = 1; block = 10 }) }
+    ensures top_again { finding_of (with_rows (row_bytes 1 (97 ∷ []))) (main_roots made_super) ≡ Some (record { code = 13; inode = 1; block = 10 }) }
+    ensures file { finding_of (with_second (inode_bytes_with 100 0x81A4 0 3 (11 ∷ [])) []) (main_roots made_super) ≡ None }
+    ensures top_of_no_kind { finding_of (with_top []) (main_roots made_super) ≡ Some (record { code = 5; inode = 1; block = 0xFFFFFFFF }) }
+    ensures top_no_directory { finding_of (with_top (inode_bytes_with 512 0x81A4 0 3 (10 ∷ []))) (main_roots made_super) ≡ Some (record { code = 5; inode = 1; block = 0xFFFFFFFF }) }
+{}
+
+/// The first reason of a new volume with changes, reason by reason.
+pub fn the_reasons_of_changed_volumes()
+    ensures other_version { reason_of made_blocks (record made_super { version1 = 2 }) areas.Second 65536 ≡ Some (record { reason = 1; at = 0 }) }
+    ensures other_number_of_blocks { reason_of made_blocks (record made_super { num_blocks = 95 }) areas.Second 65536 ≡ Some (record { reason = 1; at = 0 }) }
+    ensures few_inodes { reason_of made_blocks (record made_super { num_inodes = 15 }) areas.Second 65536 ≡ Some (record { reason = 1; at = 0 }) }
+    ensures fourth_root { reason_of made_blocks (record made_super { fourth = one_pointer 0 20 }) areas.Second 65536 ≡ Some (record { reason = 1; at = 0 }) }
+    ensures levels_of_nothing { reason_of made_blocks (record made_super { fourth = record { size = 0; pointers = replicate 16 0xFFFFFFFF; levels = 3 } }) areas.Second 65536 ≡ None }
+    ensures other_bitmap { reason_of made_blocks (record made_super { bitmap = one_pointer 12 0 }) areas.Second 65536 ≡ Some (record { reason = 2; at = 0 }) }
+    ensures inside_a_half { reason_of (with_top (directory_bytes 4)) made_super areas.Second 65536 ≡ Some (record { reason = 2; at = 0 }) }
+    ensures bit_set { reason_of (made_but ((5, bitmap_bytes 15) ∷ [])) made_super areas.Second 65536 ≡ Some (record { reason = 3; at = 11 }) }
+    ensures bit_clear { reason_of (made_but ((5, bitmap_bytes 3) ∷ [])) made_super areas.Second 65536 ≡ Some (record { reason = 3; at = 10 }) }
+    ensures bit_past_the_blocks { reason_of (made_but ((5, 255 ∷ 7 ∷ [] ++ replicate 10 0 ++ 254 ∷ [] ++ replicate 499 255) ∷ [])) made_super areas.Second 65536 ≡ Some (record { reason = 3; at = 96 }) }
+    ensures more_levels { reason_of (made_but ((6, inode_bytes_with 512 0x41ED 1 1 (11 ∷ [])) ∷ (11, 10 ∷ 0 ∷ 0 ∷ 0 ∷ [] ++ replicate 508 255) ∷ (5, bitmap_bytes 15) ∷ [])) made_super areas.Second 65536 ≡ Some (record { reason = 4; at = 1 }) }
+    ensures stray { reason_of (with_top (inode_bytes_with 512 0x41ED 0 1 (10 ∷ 20 ∷ []))) made_super areas.Second 65536 ≡ Some (record { reason = 4; at = 1 }) }
+    ensures hole { reason_of (with_top (inode_bytes_with 1024 0x41ED 0 1 (10 ∷ []))) made_super areas.Second 65536 ≡ Some (record { reason = 4; at = 1 }) }
+    ensures odd_size { reason_of (with_top (inode_bytes_with 500 0x41ED 0 1 (10 ∷ []))) made_super areas.Second 65536 ≡ Some (record { reason = 4; at = 1 }) }
+    ensures dots_swapped { reason_of (made_but ((10, row_bytes 1 (46 ∷ 46 ∷ []) ++ row_bytes 1 (46 ∷ [])) ∷ [])) made_super areas.Second 65536 ≡ Some (record { reason = 5; at = 1 }) }
+    ensures other_status { reason_of (with_top (inode_bytes_with 512 0x41ED 0 3 (10 ∷ []))) made_super areas.Second 65536 ≡ Some (record { reason = 6; at = 1 }) }
+    ensures lost_inode { reason_of (with_top (directory_bytes 10 ++ 1 ∷ [])) made_super areas.Second 65536 ≡ Some (record { reason = 6; at = 2 }) }
+    ensures special { reason_of (made_but ((6, directory_bytes 10 ++ inode_bytes_with 0 0x21FF 0 3 []) ∷ (10, dots_bytes 1 1 ++ row_bytes 2 (102 ∷ [])) ∷ [])) made_super areas.Second 65536 ≡ Some (record { reason = 6; at = 2 }) }
+    ensures bare_block { reason_of (with_second (inode_bytes_with 8704 0x81A4 1 3 (11 ∷ [])) (replicate 512 255)) made_super areas.Second 65536 ≡ Some (record { reason = 4; at = 2 }) }
+    ensures ext_mode { reason_of (with_top (take 34 (directory_bytes 10) ++ 1 ∷ drop 35 (directory_bytes 10))) made_super areas.Second 65536 ≡ Some (record { reason = 6; at = 1 }) }
+    ensures unnamed_byte { reason_of (with_top (take 127 (directory_bytes 10) ++ 1 ∷ [])) made_super areas.Second 65536 ≡ Some (record { reason = 6; at = 1 }) }
+    ensures long_names_of_odd_size { reason_of made_blocks (record made_super { longfile = one_pointer 100 0xFFFFFFFF }) areas.Second 65536 ≡ Some (record { reason = 7; at = 0 }) }
+    ensures long_name_without_row { reason_of (made_but ((5, bitmap_bytes 15) ∷ [])) (record made_super { longfile = record { size = 1024; pointers = 0xFFFFFFFF ∷ 11 ∷ replicate 14 0xFFFFFFFF; levels = 0 } }) areas.Second 65536 ≡ Some (record { reason = 7; at = 1 }) }
+    ensures file { reason_of (with_second (inode_bytes_with 100 0x81A4 0 3 (11 ∷ [])) []) (record made_super { free_inodes = 14; free_blocks = 84 }) areas.Second 65536 ≡ None }
+{}
+
+/// The last finding of a new volume with changes.
+pub fn the_last_findings_of_changed_volumes()
+    ensures file { last_finding (with_second (inode_bytes_with 100 0x81A4 0 3 (11 ∷ [])) []) (record made_super { free_inodes = 14; free_blocks = 84 }) 65536 ≡ None }
+    ensures tail { last_finding (with_second (inode_bytes_with 100 0x81A4 0 3 (11 ∷ [])) (replicate 100 0 ++ 1 ∷ [])) (record made_super { free_inodes = 14; free_blocks = 84 }) 65536 ≡ Some (record { code = 14; inode = 2; block = 0xFFFFFFFF }) }
+    ensures last_byte { last_finding (with_second (inode_bytes_with 100 0x81A4 0 3 (11 ∷ [])) (replicate 99 0 ++ 1 ∷ [])) (record made_super { free_inodes = 14; free_blocks = 84 }) 65536 ≡ None }
+    ensures free_blocks { last_finding made_blocks (record made_super { free_blocks = 84 }) 65536 ≡ Some (record { code = 15; inode = 0; block = 0xFFFFFFFF }) }
+    ensures free_inodes { last_finding made_blocks (record made_super { free_inodes = 14 }) 65536 ≡ Some (record { code = 15; inode = 0; block = 0xFFFFFFFF }) }
+{}
+
+/// What the maker writes is clean, with the second area's half and no other.
+pub fn a_new_volume_is_clean()
+    ensures whole { finding_of made_blocks (main_roots made_super) ≡ None }
+    ensures ours { reason_of made_blocks made_super areas.Second 65536 ≡ None }
+    ensures other_half { reason_of made_blocks made_super areas.First 65536 ≡ Some (record { reason = 2; at = 0 }) }
+    ensures other_length { reason_of made_blocks made_super areas.Second 69632 ≡ Some (record { reason = 1; at = 0 }) }
+    ensures counted { last_finding made_blocks made_super 65536 ≡ None }
+{}

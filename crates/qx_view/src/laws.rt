@@ -1,0 +1,52 @@
+//! Laws of what an image means.
+ghost use Rattle.std.specs.Prelude.{◌≡◌, ℕ, List, Some, None};
+ghost use Rattle.qx_model.specs.Tree.{Tree};
+ghost use Rattle.qx_super.specs.Active.{active_super};
+ghost use Rattle.qx_super.specs.Superblock.{Superblock};
+ghost use Rattle.qx_view.specs.Images.{block_bytes, image_blocks, main_roots};
+ghost use Rattle.qx_view.specs.Reading.{IsHeld, IsTree};
+ghost use Rattle.qx_view.specs.Walk.{Finding, finding_of};
+ghost use Rattle.qx_view.specs.Sound.{Clean, Damaged, Foreign, IsDamaged, IsForeign, IsSound, Reason, verdict_of};
+
+/// An image has one tree at most.
+pub fn an_image_has_one_tree()
+    ensures { (img : List ℕ) (t u : Tree) → IsTree img t → IsTree img u → t ≡ u }
+{}
+
+/// Images with one active superblock that agree on each block which the tree holds have the same tree.
+pub fn held_blocks_decide_the_tree()
+    ensures { (img other : List ℕ) (t : Tree) → active_super other ≡ active_super img
+        → ((s : Superblock) → active_super img ≡ Some s → (b : ℕ) → IsHeld (image_blocks img s) (main_roots s) t b
+        → block_bytes img s.blocksize b ≡ block_bytes other s.blocksize b)
+        → IsTree img t → IsTree other t }
+{}
+
+/// Where no test of the walk fails, the image has a tree.
+pub fn no_finding_means_a_tree()
+    ensures { (img : List ℕ) (s : Superblock) → active_super img ≡ Some s → finding_of (image_blocks img s) (main_roots s) ≡ None
+        → (t : Tree) × IsTree img t }
+{}
+
+/// Where the image has a tree, no test of the walk fails.
+pub fn a_tree_means_no_finding()
+    ensures { (img : List ℕ) (t : Tree) (s : Superblock) → active_super img ≡ Some s → IsTree img t
+        → finding_of (image_blocks img s) (main_roots s) ≡ None }
+{}
+
+/// An image is clean exactly where it is sound.
+pub fn clean_images_are_the_sound_ones()
+    ensures clean { (img : List ℕ) → verdict_of img ≡ Clean → (t : Tree) × IsSound img t }
+    ensures sound { (img : List ℕ) (t : Tree) → IsSound img t → verdict_of img ≡ Clean }
+{}
+
+/// An image is foreign for a reason exactly where it has a tree and the reason is the first that applies.
+pub fn foreign_images_have_a_tree()
+    ensures foreign { (img : List ℕ) (why : Reason) → verdict_of img ≡ Foreign why → IsForeign img why }
+    ensures reason { (img : List ℕ) (why : Reason) → IsForeign img why → verdict_of img ≡ Foreign why }
+{}
+
+/// An image is damaged by a finding exactly where the walk finds it, or else the tail or the counts do and no reason applies.
+pub fn damaged_images_have_a_finding()
+    ensures damaged { (img : List ℕ) (f : Finding) → verdict_of img ≡ Damaged f → IsDamaged img f }
+    ensures found { (img : List ℕ) (f : Finding) → IsDamaged img f → verdict_of img ≡ Damaged f }
+{}

@@ -1,0 +1,19 @@
+//! What an image means: its tree, whether it is sound, and the checker's verdict.
+//!
+//! Stands on `qx_nodes`, `qx_records` and `qx_super` for what bytes say, and on `qx_model` for the tree; the walk, the mount and the snapshots stand on it.
+//! Its contract: the definitions of `specs/Reading.antt`, `Walk.antt` and `Sound.antt`, and the laws below about them.
+//! It keeps no state, takes no memory and has no code that runs.
+#![tactic(auto)]
+
+mod examples;
+mod laws;
+
+pub use examples::{
+    a_new_volume_is_clean, the_findings_of_changed_volumes, the_last_findings_of_changed_volumes,
+    the_reasons_of_changed_volumes, the_walk_of_a_vast_directory, the_walk_of_two_directories,
+};
+pub use laws::{
+    a_tree_means_no_finding, an_image_has_one_tree, clean_images_are_the_sound_ones,
+    damaged_images_have_a_finding, foreign_images_have_a_tree, held_blocks_decide_the_tree,
+    no_finding_means_a_tree,
+};
