@@ -18,7 +18,7 @@ pub ceil_div-le : (n p m : ℕ) → 0 < p → n ≤ m * p → ceil_div n p ≤ m
 ceil_div-le n p m some enough = let below : (n + p - 1) / p < m + 1 = (div-lt_iff_lt-mul some).1 (omega arith) in omega arith
 
 -- a place below the rounded quotient stands in a part that begins below the number
-ceil_div-below : (n p j : ℕ) → 0 < p → j < ceil_div n p → j * p < n
+pub ceil_div-below : (n p j : ℕ) → 0 < p → j < ceil_div n p → j * p < n
 ceil_div-below n p j some less =
     let whole : (j + 1) * p ≤ n + p - 1 = (le-div_iff_mul-le some).0 (omega arith) in
     omega arith

@@ -38,7 +38,7 @@ area_place-second g e =
 -- ---- the trees
 
 -- each of the first blocks is of a level
-level_of : (b n k x : ℕ) → x < below_level b n k → (level : ℕ) × (level < k) × (below_level b n level ≤ x) × (x < below_level b n level + level_count b n level)
+pub level_of : (b n k x : ℕ) → x < below_level b n k → (level : ℕ) × (level < k) × (below_level b n level ≤ x) × (x < below_level b n level + level_count b n level)
 level_of b n zero x less = absurd (omega arith)
 level_of b n (suc k) x less =
     ⊎_elim (λ lower. let found = level_of b n k x lower in (found.0, omega (arith, found.1), found.2, found.3)) (λ here. (k, omega arith, here, less)) (cases_lt x (below_level b n k))

@@ -58,6 +58,10 @@ tested : (len b i : ℕ) (g : Geometry) → geometry_of len b i ≡ Ok g
     → Passed (is_block_size b) (nat_lt i 16 || nat_lt 1048576 i) (nat_lt (whole_length len) 0x4000 || nat_lt (blocks_in len b) (2 * half_of len b i + 17)) (nat_lt (2 ^ 28) (blocks_in len b)) (numbers_of len b i) g
 tested len b i g e = passed _ _ _ _ _ _ (sym (geometry_of-decided len b i _ _ _ _ refl refl refl refl) ∙ e)
 
+-- a device's geometry is that of its numbers
+pub geometry_of-numbers : (len b i : ℕ) (g : Geometry) → geometry_of len b i ≡ Ok g → numbers_of len b i ≡ g
+geometry_of-numbers len b i g e = (tested len b i g e).same
+
 -- what is a device's geometry is a volume's
 pub IsGeometry-of : (len b i : ℕ) (g : Geometry) → geometry_of len b i ≡ Ok g → IsGeometry g
 IsGeometry-of len b i g e =

@@ -37,13 +37,17 @@ pub struct Geometry {
     pub len4: u64,
     /// Bytes of a block.
     pub blocksize: u32,
+    /// Blocks between the two areas, at most 2^28.
     pub num_blocks: u32,
+    /// Inodes, 16 to 2^20.
     pub num_inodes: u32,
-    /// Blocks of a half's bitmap, and of the pointers above them.
+    /// Blocks of a half's bitmap.
     pub bitmap_leaves: u32,
+    /// Pointer blocks above them.
     pub bitmap_pointers: u32,
-    /// Blocks of a half's inode table, and of the pointers above them.
+    /// Blocks of a half's inode table.
     pub inode_leaves: u32,
+    /// Pointer blocks above them.
     pub inode_pointers: u32,
     /// Blocks of a half.
     pub half: u32,

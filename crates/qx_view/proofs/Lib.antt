@@ -11,3 +11,11 @@ pub mod TestsFromTree
 pub mod TestsAndTree
 pub mod ImageTrees
 pub mod Verdicts
+pub mod AlikeLists
+pub mod SystemTrees
+pub mod OuterNodes
+pub mod ActiveHalf
+pub mod NodesAlike
+pub mod WalkAlike
+pub mod ReasonsAlike
+pub mod SoundLocality

@@ -23,7 +23,7 @@ use Rattle.qx_view.specs.Images.{Roots, has_inode, inode_of, long_name, name_at_
 use Rattle.qx_view.specs.Reading.{HasNode, IsBody, IsEntry, IsHeld, IsNode, IsOfKind, IsTreeOf, OfBeside, OfInode, OfInodes, OfLongfile, Owner, StandsAt, attr_of, long_slot, slot_of, slots_read}
 
 -- the inodes that have a place stand within the Inode tree's size
-place_within : (inodes : Root) (n : ℕ) → IsTrue (has_inode inodes n) → n * 128 ≤ inodes.size
+pub place_within : (inodes : Root) (n : ℕ) → IsTrue (has_inode inodes n) → n * 128 ≤ inodes.size
 place_within inodes n there = omega (arith, no_more (nat_lt (inodes.size / 128) (2 ^ 32)) refl, leb-true n (places_in inodes) there)
   where
     no_more : (b : Bool) → nat_lt (inodes.size / 128) (2 ^ 32) ≡ b → (if b then inodes.size / 128 else 2 ^ 32 - 1) ≤ inodes.size / 128
@@ -113,17 +113,17 @@ kind_local m g longfile node kinds.Link e s r same own is = node_local m g longf
 
 module _ (m : BlockMap) (g : ℕ → List ℕ) (r : Roots) (t : Tree) (s : HasSize m) (is : IsTreeOf m r t) (held : (b : ℕ) → IsHeld m r t b → m.bytes b ≡ g b) where
   -- the blocks of each node agree
-  agrees : (o : Owner) (node : Root) → HasNode m r t o node → AgreesOn m g (visits_of m node)
+  pub agrees : (o : Owner) (node : Root) → HasNode m r t o node → AgreesOn m g (visits_of m node)
   agrees o node h v c = held v.block (o, v, (node, h, c), refl)
 
   -- so each inode is the same
-  inode_same : (n : ℕ) → 0 < n → IsTrue (has_inode r.inodes n) → inode_of m r.inodes n ≡ inode_of (with_bytes m g) r.inodes n
+  pub inode_same : (n : ℕ) → 0 < n → IsTrue (has_inode r.inodes n) → inode_of m r.inodes n ≡ inode_of (with_bytes m g) r.inodes n
   inode_same n pos there = ap (λ bs. inode_in m.order bs)
       (piece_local m g r.inodes ((n - 1) * 128) 128 (reaches_of m r.inodes s (and_left (levels_fit m r.inodes) _ is.inodes_fit))
       (omega (arith, place_within r.inodes n there)) (agrees OfInodes r.inodes refl))
 
   -- the Longfile's levels reach its size
-  longfile_reaches : Reaches m r.longfile
+  pub longfile_reaches : Reaches m r.longfile
   longfile_reaches = reaches_of m r.longfile s (and_left (levels_fit m r.longfile) _ is.longfile_fits)
 
   -- a node of the other blocks is one of these

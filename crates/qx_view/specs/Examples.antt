@@ -1,9 +1,12 @@
 -- Small volumes on which the definitions are computed.
-use Rattle.std.specs.Prelude.{ℕ, ◌-◌, ◌*◌, ◌^◌, List, [], ◌∷◌, ◌++◌, flat_map, length, replicate, ◌==◌, ◌||◌, if◌then◌else◌}
+use Rattle.std.specs.Prelude.{ℕ, ◌+◌, ◌-◌, ◌*◌, ◌^◌, List, [], ◌∷◌, ◌++◌, flat_map, length, replicate, ◌==◌, ◌||◌, if◌then◌else◌, Some, None}
+use Rattle.std.specs.List.{range_with_len}
+use Rattle.qx_fields.specs.declared.order.Order.{Order}
 use Rattle.qx_fields.specs.declared.order.Order.TheVariants.{Little}
 use Rattle.qx_fields.specs.Number.{digits}
 use Rattle.qx_geom.specs.declared.root.Root.{Root}
 use Rattle.qx_geom.specs.Pointer.{absent}
+use Rattle.qx_model.specs.Tree.{Directory, Free, Row, Tree}
 use Rattle.qx_nodes.specs.BlockMap.{BlockMap}
 use Rattle.qx_super.specs.Superblock.{Superblock}
 use Rattle.qx_view.specs.Images.{Roots}
@@ -15,18 +18,26 @@ abbrev pub filled : ℕ → List ℕ → List ℕ
 filled count bytes = bytes ++ replicate (count - length bytes) 0
 
 -- an inode of this size, mode, levels and status, whose first pointers are these
+abbrev pub inode_bytes_in : Order → ℕ → ℕ → ℕ → ℕ → List ℕ → List ℕ
+inode_bytes_in order size mode levels status pointers =
+    filled 128 (digits order 8 size ++ replicate 24 0 ++ digits order 2 mode ++ 0 ∷ 0 ∷ []
+    ++ flat_map (λ p. digits order 4 p) pointers ++ replicate (64 - 4 * length pointers) 255 ++ levels ∷ status ∷ [])
+
+-- the same in little order
 abbrev pub inode_bytes_with : ℕ → ℕ → ℕ → ℕ → List ℕ → List ℕ
-inode_bytes_with size mode levels status pointers =
-    filled 128 (digits Little 8 size ++ replicate 24 0 ++ digits Little 2 mode ++ 0 ∷ 0 ∷ []
-    ++ flat_map (λ p. digits Little 4 p) pointers ++ replicate (64 - 4 * length pointers) 255 ++ levels ∷ status ∷ [])
+inode_bytes_with = inode_bytes_in Little
 
 -- a directory of one block of 512 bytes
 abbrev pub directory_bytes : ℕ → List ℕ
 directory_bytes block = inode_bytes_with 512 0x41ED 0 1 (block ∷ [])
 
 -- a short row
+abbrev pub row_bytes_in : Order → ℕ → List ℕ → List ℕ
+row_bytes_in order n name = filled 32 (digits order 4 n ++ length name ∷ [] ++ name)
+
+-- the same in little order
 abbrev pub row_bytes : ℕ → List ℕ → List ℕ
-row_bytes n name = filled 32 (digits Little 4 n ++ length name ∷ [] ++ name)
+row_bytes = row_bytes_in Little
 
 -- a node without levels that has this pointer alone
 abbrev pub one_pointer : ℕ → ℕ → Root
@@ -50,6 +61,18 @@ two_directories n block = blocks_of 8 (λ b.
     else if b == 4 then filled 512 (dots_bytes 2 1)
     else replicate 512 0)
 
+-- a small volume in this order: the inodes in block 2, the top directory in block 3, whose rows `d` and `f` name inode 2, a file of 7 bytes in block 4
+abbrev pub one_file : Order → BlockMap
+one_file order = record {
+  order = order;
+  size = 512;
+  count = 8;
+  bytes = λ b.
+      if b == 2 then filled 512 (inode_bytes_in order 512 0x41ED 0 1 (3 ∷ []) ++ inode_bytes_in order 7 0x81A4 0 3 (4 ∷ []))
+      else if b == 3 then filled 512 (row_bytes_in order 1 (46 ∷ []) ++ row_bytes_in order 1 (46 ∷ 46 ∷ []) ++ row_bytes_in order 2 (100 ∷ []) ++ row_bytes_in order 2 (102 ∷ []))
+      else replicate 512 0;
+}
+
 -- where its tree begins
 abbrev pub small_roots : Roots
 small_roots = record { inodes = one_pointer 512 2; longfile = one_pointer 0 absent; beside = one_pointer 1 1 ∷ [] }
@@ -62,6 +85,16 @@ vast_directory first = blocks_of 8 (λ b.
     if b == 2 then filled 512 (inode_bytes_with (2 ^ 48) 0x41ED 5 1 (3 ∷ []))
     else if b == 3 then filled 512 first
     else replicate 512 0)
+
+-- ---- nodes under each number of levels
+
+-- each word of block b leads to block b + 1
+abbrev pub chain : BlockMap
+chain = blocks_of 8 (λ b. flat_map (λ w. digits Little 4 (b + 1)) (range_with_len 0 128))
+
+-- a node whose first and last pointers lead to block 1
+abbrev pub chained : ℕ → Root
+chained levels = record { size = 2 ^ 48; pointers = 1 ∷ replicate 14 absent ++ 1 ∷ []; levels = levels }
 
 -- ---- what the maker writes on a device of 65536 bytes: 96 blocks, halves of 5 blocks, and the top directory in block 10
 
@@ -108,6 +141,20 @@ made_super = record {
   bitmap = one_pointer 12 5;
   longfile = one_pointer 0 absent;
   fourth = one_pointer 0 absent;
+}
+
+-- its tree: the top directory alone, with its two rows
+abbrev pub empty_tree : Tree
+empty_tree = record {
+  inodes = Some (record {
+    attr = record { mode = 0x41ED; uid = 0; gid = 0; ftime = 0; mtime = 0; atime = 0; ctime = 0 };
+    size = 512;
+    present = 0 ∷ [];
+    body = Directory (Row 1 (46 ∷ []) None ∷ Row 1 (46 ∷ 46 ∷ []) None ∷ replicate 14 Free) 1;
+  }) ∷ replicate 15 None;
+  long_size = 0;
+  long_names = [];
+  long_present = [];
 }
 
 -- ---- changes of it

@@ -77,16 +77,19 @@ is_same_root a b = (a.size == b.size) && ((a.levels == b.levels) && bytes_eq a.p
 -- the words of block j of level k + 1 of a system tree of n leaves lead to the blocks of level k
 abbrev pub has_system_words : BlockMap → ℕ → ℕ → ℕ → ℕ → Bool
 has_system_words m base n k j =
-    list_all (λ w. word m (system_pointer m.size base n (suc k) j) w == system_pointer m.size base n k (j * per_block m.size + w)) (each_below (per_block m.size) (λ w. w))
+    list_all (λ w. word m (system_pointer m.size base n (suc k) j) w == system_pointer m.size base n k (j * per_block m.size + w))
+    (each_below (per_block m.size) (λ w. w))
 
 -- so do those of each pointer block of the tree
 abbrev pub is_system_tree : BlockMap → ℕ → ℕ → Bool
 is_system_tree m base n =
-    list_all (λ k. list_all (λ j. has_system_words m base n k j) (each_below (level_count m.size n (suc k)) (λ j. j))) (each_below (levels_for m.size n) (λ k. k))
+    list_all (λ k. list_all (λ j. has_system_words m base n k j) (each_below (level_count m.size n (suc k)) (λ j. j)))
+    (each_below (levels_for m.size n) (λ k. k))
 
 -- both trees of a half are so
 abbrev pub is_half : BlockMap → Geometry → Which → Bool
-is_half m g which = is_system_tree m (tree_base g which true) (tree_leaves g true) && is_system_tree m (tree_base g which false) (tree_leaves g false)
+is_half m g which =
+    is_system_tree m (tree_base g which true) (tree_leaves g true) && is_system_tree m (tree_base g which false) (tree_leaves g false)
 
 -- the two root nodes are those of the active area's half, and both halves are as they must be
 abbrev pub are_halves : BlockMap → Superblock → Geometry → Which → Bool
@@ -140,7 +143,8 @@ is_foreign_directory m node = (node.size == 0) || (not (node.size % m.size == 0)
 abbrev pub fails_nodes : BlockMap → Roots → List ℕ → ℕ → Bool
 fails_nodes m r reached zero = is_foreign_node m r.longfile
 fails_nodes m r reached (suc k) = let n = suc k in
-    is_in reached n && (not (is_special_inode m r n) && (is_foreign_node m (inode_root m r n) || (is_directory_inode m r n && is_foreign_directory m (inode_root m r n))))
+    is_in reached n && (not (is_special_inode m r n)
+    && (is_foreign_node m (inode_root m r n) || (is_directory_inode m r n && is_foreign_directory m (inode_root m r n))))
 
 -- ---- reason 5: the first two records
 
@@ -154,7 +158,8 @@ is_short (Bad count) name = false
 -- a directory's first two records aren't `.` and `..`
 abbrev pub fails_dots : BlockMap → Roots → List ℕ → ℕ → Bool
 fails_dots m r reached n =
-    is_in reached n && (is_directory_inode m r n && not (is_short (raw_of m (inode_root m r n) 0) (46 ∷ []) && is_short (raw_of m (inode_root m r n) 1) (46 ∷ 46 ∷ [])))
+    is_in reached n && (is_directory_inode m r n
+    && not (is_short (raw_of m (inode_root m r n) 0) (46 ∷ []) && is_short (raw_of m (inode_root m r n) 1) (46 ∷ 46 ∷ [])))
 
 -- ---- reason 6: inodes
 
@@ -166,7 +171,8 @@ are_zero bytes = list_all (λ b. b == 0) bytes
 abbrev pub is_written_inode : BlockMap → Roots → ℕ → Bool
 is_written_inode m r n =
     let i = inode_of m r.inodes n in
-    not (is_special_inode m r n) && ((i.status == (if is_directory_inode m r n then 1 else 3)) && ((i.ext_mode == 0) && are_zero (drop 102 (inode_bytes m r.inodes n))))
+    not (is_special_inode m r n)
+    && ((i.status == (if is_directory_inode m r n then 1 else 3)) && ((i.ext_mode == 0) && are_zero (drop 102 (inode_bytes m r.inodes n))))
 
 -- a reached inode isn't, or one that isn't reached has a byte that isn't 0
 abbrev pub fails_inodes : BlockMap → Roots → List ℕ → ℕ → Bool
@@ -186,7 +192,8 @@ long_number (Bad count) = None
 -- the long-name numbers of all records of the reached directories
 abbrev pub numbers_named : BlockMap → Roots → List ℕ → List ℕ
 numbers_named m r reached =
-    flat_map (λ d. filter_map (λ k. long_number (raw_of m (inode_root m r d) k)) (each_below ((inode_root m r d).size / 32) (λ k. k))) (filter (is_directory_inode m r) reached)
+    flat_map (λ d. filter_map (λ k. long_number (raw_of m (inode_root m r d) k)) (each_below ((inode_root m r d).size / 32) (λ k. k)))
+    (filter (is_directory_inode m r) reached)
 
 -- the first of a list
 abbrev pub first_item : List ℕ → Option ℕ

@@ -1,10 +1,13 @@
 //! The definitions computed on small volumes.
 ghost use Rattle.std.specs.Prelude.{◌≡◌, ℕ, List, ◌∷◌, [], ◌++◌, drop, replicate, take, Some, None};
 ghost use Rattle.qx_geom.specs.declared.area.Which.TheVariants as areas;
+ghost use Rattle.qx_fields.specs.declared.order.Order.TheVariants as orders;
+ghost use Rattle.qx_nodes.specs.Leaves.{Block, Damage, Hole, leaf_of};
 ghost use Rattle.qx_view.specs.Images.{main_roots};
+ghost use Rattle.qx_view.specs.Reading.{IsTreeOf};
 ghost use Rattle.qx_view.specs.Walk.{finding_of, walked_inodes};
 ghost use Rattle.qx_view.specs.Sound.{last_finding, reason_of};
-ghost use Rattle.qx_view.specs.Examples.{bitmap_bytes, directory_bytes, dots_bytes, filled, inode_bytes_with, long_roots, made_blocks, made_but, made_super, one_pointer, row_bytes, small_roots, two_directories, vast_directory, with_long_row, with_rows, with_second, with_top};
+ghost use Rattle.qx_view.specs.Examples.{bitmap_bytes, chain, chained, directory_bytes, dots_bytes, empty_tree, filled, inode_bytes_with, long_roots, made_blocks, made_but, made_super, one_file, one_pointer, row_bytes, small_roots, two_directories, vast_directory, with_long_row, with_rows, with_second, with_top};
 
 /// Two directories, whole and damaged: the walk's order and its finding.
 pub fn the_walk_of_two_directories()
@@ -14,6 +17,30 @@ pub fn the_walk_of_two_directories()
     ensures twice { finding_of (two_directories 2 3) small_roots ≡ Some (record { code = 3; inode = 2; block = 3 }) }
     ensures kind { finding_of (two_directories 3 4) small_roots ≡ Some (record { code = 5; inode = 1; block = 3 }) }
     ensures cycle { finding_of (two_directories 1 4) small_roots ≡ Some (record { code = 13; inode = 1; block = 3 }) }
+{}
+
+/// A file under two names, in both orders: it is listed once. Read in the other order, the top inode's mode says no kind.
+pub fn the_walk_in_both_orders()
+    ensures little { walked_inodes (one_file orders.Little) small_roots ≡ 1 ∷ 2 ∷ [] }
+    ensures big { walked_inodes (one_file orders.Big) small_roots ≡ 1 ∷ 2 ∷ [] }
+    ensures little_whole { finding_of (one_file orders.Little) small_roots ≡ None }
+    ensures big_whole { finding_of (one_file orders.Big) small_roots ≡ None }
+    ensures other_order { finding_of (record (one_file orders.Big) { order = orders.Little }) small_roots ≡ Some (record { code = 5; inode = 1; block = 0xFFFFFFFF }) }
+{}
+
+/// The first and the last leaf under 0 to 5 levels: a leaf's block is one further for each level, and what no pointer reaches is a hole.
+pub fn the_leaves_under_levels()
+    ensures none { leaf_of chain (chained 0) 15 ≡ Block 1 }
+    ensures one { leaf_of chain (chained 1) 2047 ≡ Block 2 }
+    ensures two { leaf_of chain (chained 2) 262143 ≡ Block 3 }
+    ensures three { leaf_of chain (chained 3) 33554431 ≡ Block 4 }
+    ensures four { leaf_of chain (chained 4) 4294967295 ≡ Block 5 }
+    ensures five { leaf_of chain (chained 5) 549755813887 ≡ Block 6 }
+    ensures first { leaf_of chain (chained 5) 0 ≡ Block 6 }
+    ensures last_of_the_first { leaf_of chain (chained 5) 34359738367 ≡ Block 6 }
+    ensures hole { leaf_of chain (chained 5) 34359738368 ≡ Hole }
+    ensures past_the_pointers { leaf_of chain (chained 5) 549755813888 ≡ Hole }
+    ensures damage { leaf_of (record chain { count = 5 }) (chained 5) 0 ≡ Damage }
 {}
 
 /// A directory of 2^48 bytes whose pointers lead out of the volume, or round in it, is refused at once.
@@ -64,6 +91,7 @@ pub fn the_reasons_of_changed_volumes()
     ensures bit_past_the_blocks { reason_of (made_but ((5, 255 ∷ 7 ∷ [] ++ replicate 10 0 ++ 254 ∷ [] ++ replicate 499 255) ∷ [])) made_super areas.Second 65536 ≡ Some (record { reason = 3; at = 96 }) }
     ensures more_levels { reason_of (made_but ((6, inode_bytes_with 512 0x41ED 1 1 (11 ∷ [])) ∷ (11, 10 ∷ 0 ∷ 0 ∷ 0 ∷ [] ++ replicate 508 255) ∷ (5, bitmap_bytes 15) ∷ [])) made_super areas.Second 65536 ≡ Some (record { reason = 4; at = 1 }) }
     ensures stray { reason_of (with_top (inode_bytes_with 512 0x41ED 0 1 (10 ∷ 20 ∷ []))) made_super areas.Second 65536 ≡ Some (record { reason = 4; at = 1 }) }
+    ensures stray_of_the_longfile { reason_of made_blocks (record made_super { longfile = one_pointer 0 20 }) areas.Second 65536 ≡ Some (record { reason = 4; at = 0 }) }
     ensures hole { reason_of (with_top (inode_bytes_with 1024 0x41ED 0 1 (10 ∷ []))) made_super areas.Second 65536 ≡ Some (record { reason = 4; at = 1 }) }
     ensures odd_size { reason_of (with_top (inode_bytes_with 500 0x41ED 0 1 (10 ∷ []))) made_super areas.Second 65536 ≡ Some (record { reason = 4; at = 1 }) }
     ensures dots_swapped { reason_of (made_but ((10, row_bytes 1 (46 ∷ 46 ∷ []) ++ row_bytes 1 (46 ∷ [])) ∷ [])) made_super areas.Second 65536 ≡ Some (record { reason = 5; at = 1 }) }
@@ -87,8 +115,9 @@ pub fn the_last_findings_of_changed_volumes()
     ensures free_inodes { last_finding made_blocks (record made_super { free_inodes = 14 }) 65536 ≡ Some (record { code = 15; inode = 0; block = 0xFFFFFFFF }) }
 {}
 
-/// What the maker writes is clean, with the second area's half and no other.
+/// What the maker writes has the empty tree and is clean, with the second area's half and no other.
 pub fn a_new_volume_is_clean()
+    ensures empty { IsTreeOf made_blocks (main_roots made_super) empty_tree }
     ensures whole { finding_of made_blocks (main_roots made_super) ≡ None }
     ensures ours { reason_of made_blocks made_super areas.Second 65536 ≡ None }
     ensures other_half { reason_of made_blocks made_super areas.First 65536 ≡ Some (record { reason = 2; at = 0 }) }

@@ -1,12 +1,16 @@
 //! Laws of what an image means.
-ghost use Rattle.std.specs.Prelude.{◌≡◌, ℕ, List, Some, None};
+ghost use Rattle.std.specs.Prelude.{◌≡◌, ◌⊎◌, ◌↔◌, ◌+◌, ◌*◌, ◌<◌, ◌≤◌, ℕ, Bool, List, length, Some, None};
+ghost use Rattle.qx_geom.specs.declared.area.Which.{Which};
+ghost use Rattle.qx_geom.specs.declared.geometry.Geometry.{Geometry};
+ghost use Rattle.qx_geom.specs.Layout.{IsPointerBlock, first_block};
 ghost use Rattle.qx_model.specs.Tree.{Tree};
-ghost use Rattle.qx_super.specs.Active.{active_super};
+ghost use Rattle.qx_super.specs.declared.choice.Pick.TheVariants as picks;
+ghost use Rattle.qx_super.specs.Active.{active_area, active_super};
 ghost use Rattle.qx_super.specs.Superblock.{Superblock};
 ghost use Rattle.qx_view.specs.Images.{block_bytes, image_blocks, main_roots};
 ghost use Rattle.qx_view.specs.Reading.{IsHeld, IsTree};
 ghost use Rattle.qx_view.specs.Walk.{Finding, finding_of};
-ghost use Rattle.qx_view.specs.Sound.{Clean, Damaged, Foreign, IsDamaged, IsForeign, IsSound, Reason, verdict_of};
+ghost use Rattle.qx_view.specs.Sound.{Clean, Damaged, Foreign, IsDamaged, IsForeign, IsSound, Reason, verdict_of, written_geometry};
 
 /// An image has one tree at most.
 pub fn an_image_has_one_tree()
@@ -49,4 +53,28 @@ pub fn foreign_images_have_a_tree()
 pub fn damaged_images_have_a_finding()
     ensures damaged { (img : List ℕ) (f : Finding) → verdict_of img ≡ Damaged f → IsDamaged img f }
     ensures found { (img : List ℕ) (f : Finding) → IsDamaged img f → verdict_of img ≡ Damaged f }
+{}
+
+/// In a sound image the active half is held, and what is held lies in it or outside both halves.
+pub fn the_active_half_is_held()
+    ensures held { (img : List ℕ) (t : Tree) (which : Which) (s : Superblock) (g : Geometry) (b : ℕ) → IsSound img t
+        → active_area img ≡ picks.Active which → active_super img ≡ Some s → written_geometry s (length img) ≡ Some g
+        → first_block g which ≤ b → b < first_block g which + g.half → IsHeld (image_blocks img s) (main_roots s) t b }
+    ensures others { (img : List ℕ) (t : Tree) (which : Which) (s : Superblock) (g : Geometry) (b : ℕ) → IsSound img t
+        → active_area img ≡ picks.Active which → active_super img ≡ Some s → written_geometry s (length img) ≡ Some g
+        → IsHeld (image_blocks img s) (main_roots s) t b
+        → ((first_block g which ≤ b) × (b < first_block g which + g.half)) ⊎ (2 * g.half ≤ b) }
+{}
+
+/// Images with one length, active area and superblock that agree on each block which the tree holds, and on the other half's pointer blocks,
+/// are both sound with this tree, or neither is.
+pub fn what_soundness_depends_on()
+    ensures { (img other : List ℕ) (t : Tree) → length other ≡ length img
+        → active_area other ≡ active_area img → active_super other ≡ active_super img
+        → ((s : Superblock) → active_super img ≡ Some s → (b : ℕ) → IsHeld (image_blocks img s) (main_roots s) t b
+        → block_bytes img s.blocksize b ≡ block_bytes other s.blocksize b)
+        → ((s : Superblock) (g : Geometry) (which : Which) (bitmap : Bool) → active_super img ≡ Some s
+        → written_geometry s (length img) ≡ Some g → ¬ (active_area img ≡ picks.Active which)
+        → (b : ℕ) → IsPointerBlock g which bitmap b → block_bytes img s.blocksize b ≡ block_bytes other s.blocksize b)
+        → IsSound img t ↔ IsSound other t }
 {}

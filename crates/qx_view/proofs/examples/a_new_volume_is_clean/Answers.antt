@@ -1,13 +1,31 @@
-use Rattle.std.proofs.Common.{refl}
+use Rattle.std.proofs.Common.{◌≡◌, refl, subst, arith}
 use Rattle.qx_fields.specs.Number.{field, fields}
 use Rattle.qx_geom.specs.Layout.{levels_for, tree_blocks, pointer_blocks, geometry_of, system_root_of}
 use Rattle.qx_records.specs.InodeRecord.{inode_in, kind_of}
 use Rattle.qx_records.specs.NameRecord.{raw_in}
+use Rattle.qx_nodes.specs.Content.{HasSize}
+use Rattle.qx_view.proofs.ApartPositions.{tree_is}
+use Rattle.qx_view.proofs.TreeFound.{tree_found}
+use Rattle.qx_view.specs.Examples.{empty_tree, made_blocks, made_super}
+use Rattle.qx_view.specs.Images.{main_roots}
+use Rattle.qx_view.specs.Reading.{IsTreeOf}
 use Rattle.qx_view.proofs.examples.a_new_volume_is_clean.Goals as goal
+
+-- its blocks have room for pointers
+has_size : HasSize made_blocks
+has_size = record { size = omega arith; words = omega arith }
+
+-- the tree that is read from it
+found : tree_found made_blocks (main_roots made_super) ≡ empty_tree
+unfolding field fields inode_in kind_of raw_in
+found = refl
 
 pub returns-clause-whole : goal.returns-clause-whole
 unfolding field fields inode_in kind_of raw_in levels_for tree_blocks pointer_blocks geometry_of system_root_of
 returns-clause-whole c = refl
+
+pub returns-clause-empty : goal.returns-clause-empty
+returns-clause-empty c = subst (λ t. IsTreeOf made_blocks (main_roots made_super) t) found (tree_is made_blocks (main_roots made_super) has_size (returns-clause-whole c))
 
 pub returns-clause-ours : goal.returns-clause-ours
 unfolding field fields inode_in kind_of raw_in levels_for tree_blocks pointer_blocks geometry_of system_root_of

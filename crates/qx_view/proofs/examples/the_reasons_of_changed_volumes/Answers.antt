@@ -53,6 +53,10 @@ pub returns-clause-stray : goal.returns-clause-stray
 unfolding field fields inode_in kind_of raw_in levels_for tree_blocks pointer_blocks geometry_of system_root_of
 returns-clause-stray c = refl
 
+pub returns-clause-stray_of_the_longfile : goal.returns-clause-stray_of_the_longfile
+unfolding field fields inode_in kind_of raw_in levels_for tree_blocks pointer_blocks geometry_of system_root_of
+returns-clause-stray_of_the_longfile c = refl
+
 pub returns-clause-hole : goal.returns-clause-hole
 unfolding field fields inode_in kind_of raw_in levels_for tree_blocks pointer_blocks geometry_of system_root_of
 returns-clause-hole c = refl
