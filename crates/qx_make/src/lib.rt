@@ -5,11 +5,8 @@
 //! It keeps no state and takes no memory.
 #![tactic(auto)]
 
-ghost use Rattle.std.specs.Prelude.{◌≡◌, ℕ};
-ghost use Rattle.qx_geom.specs.declared.geometry.Geometry.{Geometry};
-ghost use Rattle.qx_make.specs.Blocks.{top_block};
+mod areas;
+mod options;
 
-/// Nothing.
-pub fn nothing()
-    ensures { (g : Geometry) → top_block g ≡ top_block g }
-{}
+pub use options::{Made, MakeFault, MakeOptions};
+pub use areas::{put_into_areas, zero_area};

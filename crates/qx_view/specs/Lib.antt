@@ -7,3 +7,4 @@ pub mod Reading
 pub mod Walk
 pub mod Sound
 pub mod Examples
+pub mod FalseSuperblocks

@@ -1,0 +1,3 @@
+pub mod StageSteps
+pub mod ZeroedAreas
+pub mod AreaPuts
