@@ -1,12 +1,31 @@
-//! Laws of the definitions: what decides which area is active, and the checksums that the format works out.
-ghost use Rattle.std.specs.Prelude.{◌≡◌, ℕ, List, [], ◌∷◌, ◌++◌, length, replicate, IsSome};
+//! Laws of the definitions: what is read back of what is written, what decides which area is active, and the checksums that the format works out.
+ghost use Rattle.std.specs.Prelude.{◌≡◌, ℕ, List, [], ◌∷◌, ◌++◌, length, replicate, IsSome, IsTrue};
+ghost use Rattle.qx_fields.specs.declared.order.Order.{Order};
 ghost use Rattle.qx_geom.specs.declared.area.Which.{Which};
 ghost use Rattle.qx_geom.specs.declared.area.Which.TheVariants as areas;
+ghost use Rattle.qx_geom.specs.declared.root.Root.{Root};
 ghost use Rattle.qx_super.specs.declared.choice.Pick.TheVariants as picks;
+ghost use Rattle.qx_super.specs.declared.writing.Super.{Super};
 ghost use Rattle.qx_super.specs.declared.superblock.SuperFault.TheVariants as faults;
 ghost use Rattle.qx_super.specs.Checksum.{checksum_of};
-ghost use Rattle.qx_super.specs.Superblock.{superblock_of};
+ghost use Rattle.qx_super.specs.RootNode.{root_of, root_bytes, FitsRoot};
+ghost use Rattle.qx_super.specs.Superblock.{superblock_of, has_right_checksum};
+ghost use Rattle.qx_super.specs.Written.{super_bytes, written_or_refused, FitsSuper};
 ghost use Rattle.qx_super.specs.Active.{AreRead, active_area, active_super, first_area, first_read, first_super, pick_of, second_area, second_read, second_super};
+
+/// A node that is written as a root node has 80 bytes, and is read back.
+pub fn a_root_node_is_read_back()
+    ensures long { (order : Order) (root : Root) → FitsRoot root → length (root_bytes order root) ≡ 80 }
+    ensures node { (order : Order) (root : Root) → FitsRoot root → root_of order (root_bytes order root) ≡ root }
+{}
+
+/// A superblock that is written has 512 bytes and a right checksum, and is read back where its blocks fit the device.
+pub fn a_superblock_is_read_back()
+    ensures long { (s : Super) → FitsSuper s → length (super_bytes s) ≡ 512 }
+    ensures checksum { (s : Super) → FitsSuper s → IsTrue (has_right_checksum (super_bytes s)) }
+    ensures fields { (s : Super) (len : ℕ) → FitsSuper s
+        → superblock_of (super_bytes s) len ≡ written_or_refused s len }
+{}
 
 /// Bytes 0 have the magic in neither order, so a buffer that stayed empty names no superblock.
 pub fn a_buffer_of_zeros_is_no_superblock()
