@@ -22,9 +22,12 @@ pub use active::{active_view, pick};
 pub use choice::Pick;
 pub use division::checksum;
 pub use laws::{
-    a_buffer_of_zeros_is_no_superblock, a_root_node_is_read_back, a_superblock_is_read_back,
+    a_buffer_of_zeros_is_no_superblock, a_root_node_is_read_back, a_superblock_alone_is_active,
+    a_superblock_is_read_back, a_superblock_is_valid_where_there_is_room,
+    a_valid_superblock_passed_each_test, bytes_without_a_right_checksum_are_no_superblock,
+    bytes_without_the_magic_are_no_superblock, no_superblock_means_no_active_area,
     the_active_superblock_is_its_areas, the_areas_decide, the_checksum_of_few_bits,
-    what_was_read_decides,
+    the_later_of_two_superblocks_is_active, what_was_read_decides,
 };
 pub use nodes::{read_root, write_root};
 pub use reading::areas;
