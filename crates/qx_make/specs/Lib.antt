@@ -1,3 +1,4 @@
 pub mod Blocks
 pub mod Superblocks
 pub mod Stages
+pub mod Cut
