@@ -1,15 +1,17 @@
 -- What a cut of the maker may leave, and on which premises.
-use Rattle.std.specs.Prelude.{ℕ, ◌≡◌, ◌≢◌, ◌+◌, ◌-◌, ◌≤◌, ◌⊎◌, ◌↔◌, true, List, [], ◌∷◌, ◌++◌, length, replicate, slice_range, option_to_list, Some}
+use Rattle.std.specs.Prelude.{ℕ, ◌≡◌, ◌≢◌, ◌+◌, ◌-◌, ◌≤◌, ◌⊎◌, ◌↔◌, true, List, [], ◌∷◌, ◌++◌, length, replicate, slice_index, slice_range, option_to_list, Some, Ok, Contains}
 use Rattle.qx_geom.specs.Layout.{whole_length}
 use Rattle.qx_geom.specs.declared.area.Which.{Which}
 use Rattle.qx_outside.specs.Trail.{History, bytes_of}
 use Rattle.qx_outside.specs.Images.{IsImage, IsSettled}
+use Rattle.qx_outside.specs.Puts.{IsApartFrom, IsPartOf}
 use Rattle.qx_model.specs.Tree.{Tree}
 use Rattle.qx_super.specs.declared.choice.Pick.TheVariants as picks
-use Rattle.qx_super.specs.Superblock.{has_right_checksum}
+use Rattle.qx_super.specs.Superblock.{Superblock, has_right_checksum, superblock_of}
 use Rattle.qx_super.specs.Active.{active_area, active_super, second_search}
 use Rattle.qx_view.specs.Reading.{IsTree}
 use Rattle.qx_view.specs.FalseSuperblocks.{HasNoFalseSuperblock}
+use Rattle.qx_make.specs.Stages.{Stage}
 
 -- the last 4096 bytes of a device's whole ones, where a second area is looked for if the first is none
 abbrev pub last_place : ℕ → ℕ
@@ -40,3 +42,16 @@ pub data IsLeftByMaker (old : List ℕ) (t : Tree) (img : List ℕ) : Type 0 whe
 -- each image after a cut is left so, unless a torn superblock matches its checksum by chance
 abbrev pub LeavesByMaker : List ℕ → ℕ → Tree → History → Type 0
 LeavesByMaker old size t h = (img : List ℕ) → IsImage h img → HasNoFalseSuperblock (places_of old size) h img → IsLeftByMaker old t img
+
+-- ---- by stages
+
+-- what a cut may leave of a stage: all but the places of its puts is as it was kept, and at a superblock's place stands what was kept, a part of a put, or no valid superblock
+pub data MayBeLeft (stage : Stage) (len place : ℕ) (bytes : List ℕ) : Type 0 where
+  kept : bytes ≡ slice_range stage.kept place (place + 512) → MayBeLeft stage len place bytes
+  put : IsPartOf stage.puts place bytes → MayBeLeft stage len place bytes
+  invalid : ((s : Superblock) → superblock_of bytes len ≡ Ok s → ⊥) → MayBeLeft stage len place bytes
+
+pub record IsTorn (stage : Stage) (places : List ℕ) (img : List ℕ) : Type 0 where
+  pub size : length img ≡ length stage.kept
+  pub apart : (k : ℕ) → IsApartFrom stage.puts k → slice_index img k ≡ slice_index stage.kept k
+  pub stands : (place : ℕ) → Contains places place → place + 512 ≤ length img → MayBeLeft stage (length img) place (slice_range img place (place + 512))
