@@ -2,7 +2,7 @@
 use Rattle.std.specs.Prelude.{ℕ, ◌≡◌, IsTrue, Bool, Result, OnOk, ◌+◌, ◌-◌, List, [], ◌∷◌, ◌++◌, flat_map, fold, length, min, replicate, Option, Some, None, Contains}
 use Rattle.std.specs.List.{range_with_len}
 use Rattle.qx_outside.specs.Moments.{Moves, Reaches}
-use Rattle.qx_outside.specs.Puts.{IsAtRest, IsPutting, Put, PutsOrRests, with_puts}
+use Rattle.qx_outside.specs.Puts.{HasPut, IsAtRest, IsPutting, Put, PutsOrRests, with_puts}
 use Rattle.qx_outside.specs.Trail.{History, lengths_asked, resized}
 use Rattle.qx_fields.specs.declared.order.Order.{Order}
 use Rattle.qx_geom.specs.declared.area.Which.{Which}
@@ -33,6 +33,12 @@ Passes s h = PutsOrRests s.kept s.puts (after_stage s) h
 pub record Performs {D T E : Type 0} (tells : D → Bool) (history : D → History) (stage : Stage) (result : Result T E) (old new : D) : Type 0 where
   pub reaches : Reaches tells history (IsAtRest stage.kept) (Passes stage) old new
   pub ok : OnOk result (Moves tells history (IsAtRest stage.kept) (IsAtRest (after_stage stage)) (Passes stage) old new)
+  pub lengths : IsTrue (tells new) → lengths_asked (history new).deeds ≡ lengths_asked (history old).deeds
+
+-- the same, but where it is Ok all is put and not yet kept
+pub record PutsAll {D T E : Type 0} (tells : D → Bool) (history : D → History) (stage : Stage) (result : Result T E) (old new : D) : Type 0 where
+  pub reaches : Reaches tells history (IsAtRest stage.kept) (Passes stage) old new
+  pub ok : OnOk result (Moves tells history (IsAtRest stage.kept) (HasPut stage.kept stage.puts (after_stage stage)) (Passes stage) old new)
   pub lengths : IsTrue (tells new) → lengths_asked (history new).deeds ≡ lengths_asked (history old).deeds
 
 -- ---- the old areas

@@ -6,7 +6,10 @@
 #![tactic(auto)]
 
 mod areas;
+mod blocks;
+mod halves;
 mod options;
 
 pub use options::{Made, MakeFault, MakeOptions};
+pub use halves::write_blocks;
 pub use areas::{put_into_areas, zero_area};
