@@ -1,18 +1,13 @@
 -- The two superblocks of a new volume.
-use Rattle.std.specs.Prelude.{ℕ, ◌-◌, List, replicate, true, false}
+use Rattle.std.specs.Prelude.{ℕ, ◌-◌, List, true, false}
 use Rattle.qx_fields.specs.declared.order.Order.{Order}
 use Rattle.qx_geom.specs.declared.area.Which.{Which}
 use Rattle.qx_geom.specs.declared.geometry.Geometry.{Geometry}
-use Rattle.qx_geom.specs.declared.root.Root.{Root}
 use Rattle.qx_geom.specs.Area.{area_number}
-use Rattle.qx_geom.specs.Pointer.{absent}
 use Rattle.qx_geom.specs.Layout.{system_root_of, user_blocks}
 use Rattle.qx_super.specs.declared.writing.Super.{Super}
 use Rattle.qx_super.specs.Written.{super_bytes}
-
--- a node of nothing
-abbrev pub empty_root : Root
-empty_root = record { size = 0; pointers = replicate 16 absent; levels = 0 }
+use Rattle.qx_make.specs.NewVolume.{empty_root}
 
 -- the superblock of an area: the first has serial 1, the second serial 2, and each the root nodes of its half
 unfoldable pub made_super : Geometry → Order → ℕ → Which → Super

@@ -8,8 +8,13 @@
 mod areas;
 mod blocks;
 mod halves;
+mod laws;
 mod options;
 
-pub use options::{Made, MakeFault, MakeOptions};
-pub use halves::write_blocks;
 pub use areas::{put_into_areas, zero_area};
+pub use halves::write_blocks;
+pub use laws::{
+    a_new_volume_has_the_empty_tree, a_new_volume_is_sound, the_blocks_by_the_tables,
+    the_last_superblock_of_a_new_volume_is_active, the_volume_by_hand_is_a_new_one,
+};
+pub use options::{Made, MakeFault, MakeOptions};
