@@ -38,7 +38,7 @@ module _ {D : Type 0} (tells : D → Bool) (history : D → History) (stage : St
 
   module _ {T E : Type 0} where
     -- what is said of an Ok holds of an Err
-    none_of_err : (result : Result T E) (P : Type 0) → IsErr result → OnOk result P
+    pub none_of_err : (result : Result T E) (P : Type 0) → IsErr result → OnOk result P
     none_of_err (Ok x) P err = absurd (cc err)
     none_of_err (Err e) P err = tt
 
