@@ -3,7 +3,7 @@ use Rattle.std.specs.Prelude.{ℕ, ◌≡◌, IsTrue, Bool, Result, OnOk, ◌+�
 use Rattle.std.specs.List.{range_with_len}
 use Rattle.qx_outside.specs.Moments.{Moves, Reaches}
 use Rattle.qx_outside.specs.Puts.{HasPut, IsAtRest, IsPutting, Put, PutsOrRests, with_puts}
-use Rattle.qx_outside.specs.Trail.{History, lengths_asked, resized}
+use Rattle.qx_outside.specs.Trail.{History, bytes_of, lengths_asked, resized}
 use Rattle.qx_fields.specs.declared.order.Order.{Order}
 use Rattle.qx_geom.specs.declared.area.Which.{Which}
 use Rattle.qx_geom.specs.declared.area.Which.TheVariants.{First, Second}
@@ -29,16 +29,31 @@ after_stage s = with_puts s.kept s.puts
 abbrev pub Passes : Stage → History → Type 0
 Passes s h = PutsOrRests s.kept s.puts (after_stage s) h
 
--- a call that begins at rest passes the stage, and where it is Ok all is put and kept; it asks for no length
+-- over a device with the stage's bytes a call that is Ok leaves all put and kept; if it began at rest it passes the stage, whatever it answers; it asks for no length
 pub record Performs {D T E : Type 0} (tells : D → Bool) (history : D → History) (stage : Stage) (result : Result T E) (old new : D) : Type 0 where
   pub reaches : Reaches tells history (IsAtRest stage.kept) (Passes stage) old new
   pub ok : OnOk result (Moves tells history (IsAtRest stage.kept) (IsAtRest (after_stage stage)) (Passes stage) old new)
+  pub kept : OnOk result (IsTrue (tells new) → bytes_of (history old) ≡ stage.kept → IsAtRest (after_stage stage) (history new))
   pub lengths : IsTrue (tells new) → lengths_asked (history new).deeds ≡ lengths_asked (history old).deeds
 
 -- the same, but where it is Ok all is put and not yet kept
 pub record PutsAll {D T E : Type 0} (tells : D → Bool) (history : D → History) (stage : Stage) (result : Result T E) (old new : D) : Type 0 where
   pub reaches : Reaches tells history (IsAtRest stage.kept) (Passes stage) old new
   pub ok : OnOk result (Moves tells history (IsAtRest stage.kept) (HasPut stage.kept stage.puts (after_stage stage)) (Passes stage) old new)
+  pub now : OnOk result (IsTrue (tells new) → bytes_of (history old) ≡ stage.kept → bytes_of (history new) ≡ after_stage stage)
+  pub lengths : IsTrue (tells new) → lengths_asked (history new).deeds ≡ lengths_asked (history old).deeds
+
+-- the device is in one of these stages
+pub record IsInStage (stages : List Stage) (h : History) : Type 0 where
+  pub stage : Stage
+  pub among : Contains stages stage
+  pub putting : IsPutting stage.kept stage.puts h
+
+-- several stages one after another, from these bytes to those
+pub record PerformsAll {D T E : Type 0} (tells : D → Bool) (history : D → History) (kept all : List ℕ) (stages : List Stage) (result : Result T E) (old new : D) : Type 0 where
+  pub reaches : Reaches tells history (IsAtRest kept) (IsInStage stages) old new
+  pub ok : OnOk result (Moves tells history (IsAtRest kept) (IsAtRest all) (IsInStage stages) old new)
+  pub kept_ok : OnOk result (IsTrue (tells new) → bytes_of (history old) ≡ kept → IsAtRest all (history new))
   pub lengths : IsTrue (tells new) → lengths_asked (history new).deeds ≡ lengths_asked (history old).deeds
 
 -- ---- the old areas
@@ -59,7 +74,7 @@ places_by (picks.Active which) None = 0x2000 ∷ []
 places_by picks.None s = 0x2000 ∷ []
 places_by picks.Disagree s = 0x2000 ∷ []
 
--- the old areas' places
+-- the places of the old areas in that order
 abbrev pub old_places : List ℕ → List ℕ
 old_places old = places_by (active_area old) (active_super old)
 
@@ -115,17 +130,14 @@ new_stages g order moment bytes =
     clear_stage g bytes ∷ blocks_stage g order moment (with_areas g bytes) ∷ supers_stage g order moment (with_blocks g order moment (with_areas g bytes))
     ∷ rest_stage (with_supers g order moment (with_blocks g order moment (with_areas g bytes))) ∷ []
 
+-- the stages that zero the old areas, and the rest behind them
+abbrev pub old_stages : List ℕ → List Stage
+old_stages old = zero_stages old (old_places old) ++ rest_stage (zeroed old (old_places old)) ∷ []
+
 -- all stages, over a device with these bytes that gets this length
 abbrev pub make_stages : Geometry → Order → ℕ → ℕ → List ℕ → List Stage
-make_stages g order moment size old =
-    zero_stages old (old_places old) ++ rest_stage (zeroed old (old_places old)) ∷ new_stages g order moment (resized (zeroed old (old_places old)) size)
+make_stages g order moment size old = old_stages old ++ new_stages g order moment (resized (zeroed old (old_places old)) size)
 
 -- the bytes at the end
 abbrev pub made_bytes : Geometry → Order → ℕ → ℕ → List ℕ → List ℕ
 made_bytes g order moment size old = with_supers g order moment (with_blocks g order moment (with_areas g (resized (zeroed old (old_places old)) size)))
-
--- the device is in one of these stages
-pub record IsInStage (stages : List Stage) (h : History) : Type 0 where
-  pub stage : Stage
-  pub among : Contains stages stage
-  pub putting : IsPutting stage.kept stage.puts h
