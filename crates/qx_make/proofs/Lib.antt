@@ -8,6 +8,7 @@ pub mod TopDirectory
 pub mod PiecesWritten
 pub mod MadeBlockLengths
 pub mod BlockPuts
+pub mod StagesInOrder
 pub mod NumbersInRows
 pub mod NewBlocks
 pub mod NewWords

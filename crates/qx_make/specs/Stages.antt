@@ -1,5 +1,5 @@
 -- The maker's way: what it puts between one good sync and the next, and over which bytes.
-use Rattle.std.specs.Prelude.{ℕ, ◌≡◌, IsTrue, Bool, Result, OnOk, ◌+◌, ◌-◌, List, [], ◌∷◌, ◌++◌, flat_map, fold, length, min, replicate, Option, Some, None, Contains}
+use Rattle.std.specs.Prelude.{ℕ, ◌≡◌, IsTrue, Bool, Result, OnOk, ◌+◌, ◌-◌, List, [], ◌∷◌, ◌++◌, ◌⊎◌, flat_map, fold, length, min, replicate, Option, Some, None, Contains}
 use Rattle.std.specs.List.{range_with_len}
 use Rattle.qx_outside.specs.Moments.{Moves, Reaches}
 use Rattle.qx_outside.specs.Puts.{HasPut, IsAtRest, IsPutting, Put, PutsOrRests, with_puts}
@@ -56,6 +56,13 @@ pub record PerformsAll {D T E : Type 0} (tells : D → Bool) (history : D → Hi
   pub kept_ok : OnOk result (IsTrue (tells new) → bytes_of (history old) ≡ kept → IsAtRest all (history new))
   pub lengths : IsTrue (tells new) → lengths_asked (history new).deeds ≡ lengths_asked (history old).deeds
 
+-- the stages of a new volume, which gets this length on the way
+pub record MakesAll {D T E : Type 0} (tells : D → Bool) (history : D → History) (size : ℕ) (kept all : List ℕ) (stages : List Stage) (result : Result T E) (old new : D) : Type 0 where
+  pub reaches : Reaches tells history (IsAtRest kept) (IsInStage stages) old new
+  pub ok : OnOk result (Moves tells history (IsAtRest kept) (IsAtRest all) (IsInStage stages) old new)
+  pub kept_ok : OnOk result (IsTrue (tells new) → bytes_of (history old) ≡ kept → IsAtRest all (history new))
+  pub lengths : IsTrue (tells new) → (lengths_asked (history new).deeds ≡ lengths_asked (history old).deeds) ⊎ (lengths_asked (history new).deeds ≡ size ∷ lengths_asked (history old).deeds)
+
 -- ---- the old areas
 
 -- zeros for the area at a place, as far as a device of this length has it
@@ -73,6 +80,11 @@ places_by (picks.Active Second) (Some s) = 0x2000 ∷ second_place_of s ∷ []
 places_by (picks.Active which) None = 0x2000 ∷ []
 places_by picks.None s = 0x2000 ∷ []
 places_by picks.Disagree s = 0x2000 ∷ []
+
+-- one place, or two
+abbrev pub places_of_two : ℕ → Option ℕ → List ℕ
+places_of_two one None = one ∷ []
+places_of_two one (Some last) = one ∷ last ∷ []
 
 -- the places of the old areas in that order
 abbrev pub old_places : List ℕ → List ℕ
@@ -124,11 +136,15 @@ with_blocks g order moment bytes = after_stage (blocks_stage g order moment byte
 abbrev pub with_supers : Geometry → Order → ℕ → List ℕ → List ℕ
 with_supers g order moment bytes = after_stage (supers_stage g order moment bytes)
 
+-- the bytes once the new volume stands
+abbrev pub with_volume : Geometry → Order → ℕ → List ℕ → List ℕ
+with_volume g order moment bytes = with_supers g order moment (with_blocks g order moment (with_areas g bytes))
+
 -- the stages that make a volume of zeros and old bytes of its length
 abbrev pub new_stages : Geometry → Order → ℕ → List ℕ → List Stage
 new_stages g order moment bytes =
     clear_stage g bytes ∷ blocks_stage g order moment (with_areas g bytes) ∷ supers_stage g order moment (with_blocks g order moment (with_areas g bytes))
-    ∷ rest_stage (with_supers g order moment (with_blocks g order moment (with_areas g bytes))) ∷ []
+    ∷ rest_stage (with_volume g order moment bytes) ∷ []
 
 -- the stages that zero the old areas, and the rest behind them
 abbrev pub old_stages : List ℕ → List Stage
@@ -140,4 +156,4 @@ make_stages g order moment size old = old_stages old ++ new_stages g order momen
 
 -- the bytes at the end
 abbrev pub made_bytes : Geometry → Order → ℕ → ℕ → List ℕ → List ℕ
-made_bytes g order moment size old = with_supers g order moment (with_blocks g order moment (with_areas g (resized (zeroed old (old_places old)) size)))
+made_bytes g order moment size old = with_volume g order moment (resized (zeroed old (old_places old)) size)

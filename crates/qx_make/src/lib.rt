@@ -9,6 +9,7 @@ mod areas;
 mod blocks;
 mod halves;
 mod laws;
+mod making;
 mod options;
 
 pub use areas::{put_into_areas, zero_area};

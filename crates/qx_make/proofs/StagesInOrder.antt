@@ -1,0 +1,76 @@
+-- Stages one after another: each begins where the one before it rests.
+use Rattle.std.proofs.Common.{◌≡◌, ℕ, ◌+◌, ◌-◌, ◌≤◌, ◌<◌, ◌⊎◌, inl, inr, Bool, Result, Ok, Err, IsErr, OnOk, List, [], ◌∷◌, ◌++◌, length, min, replicate, refl, ap, sym, ◌∙◌, subst, arith}
+use Rattle.std.specs.Prelude.{Contains, IsTrue}
+use Rattle.std.proofs.lemmas.Bool.{cases_lt}
+use Rattle.std.proofs.lemmas.List.{length-replicate}
+use Rattle.qx_outside.specs.Calls.{Idles}
+use Rattle.qx_outside.specs.Moments.{Moves, Reaches}
+use Rattle.qx_outside.specs.Puts.{IsAtRest, IsPutting}
+use Rattle.qx_outside.specs.Ranges.{put_at}
+use Rattle.qx_outside.specs.Trail.{History, bytes_of, lengths_asked}
+use Rattle.qx_outside.proofs.PuttingMoments.{IsPutting-rest, put_none}
+use Rattle.qx_outside.proofs.Throughout.{reaches_then, moves_then, throughout_here, throughout_map}
+use Rattle.qx_bytes.proofs.Puts.{length_put}
+use Rattle.qx_make.specs.Stages.{IsInStage, Passes, Performs, PerformsAll, Stage, after_stage, rest_stage, zero_stage}
+
+-- what is said of an Ok follows from another thing that is said of it
+pub on_ok : {T E : Type 0} (result : Result T E) (P Q : Type 0) → (P → Q) → OnOk result P → OnOk result Q
+on_ok (Ok x) P Q f p = f p
+on_ok (Err e) P Q f p = tt
+
+-- and holds of an Err
+pub on_err : {T E : Type 0} (result : Result T E) (P : Type 0) → IsErr result → OnOk result P
+on_err (Ok x) P err = absurd (cc err)
+on_err (Err e) P err = tt
+
+-- an area that is zeroed leaves the length
+pub length-zeroed : (bytes : List ℕ) (place : ℕ) → length (after_stage (zero_stage bytes place)) ≡ length bytes
+length-zeroed bytes place = by_place (cases_lt place (length bytes))
+  where
+    by_place : (place < length bytes) ⊎ (length bytes ≤ place) → length (after_stage (zero_stage bytes place)) ≡ length bytes
+    by_place (inl within) =
+        let count = length-replicate {A = ℕ} (min 4096 (length bytes - place)) 0 in
+        length_put bytes (replicate (min 4096 (length bytes - place)) 0) place (length (replicate (min 4096 (length bytes - place)) 0)) refl (omega arith)
+    by_place (inr past) =
+        let none : min 4096 (length bytes - place) ≡ 0 = omega arith in
+        ap (λ (n : ℕ). length (put_at bytes place (replicate n 0))) none ∙ ap length (put_none bytes place)
+
+-- at rest is one of the stages
+pub rest_in : (stages : List Stage) (next : Stage) (bytes : List ℕ) (h : History) → Contains stages next → next.kept ≡ bytes → IsAtRest bytes h → IsInStage stages h
+rest_in stages next bytes h among same rest = record { stage = next; among = among; putting = IsPutting-rest next.kept next.puts h (subst (λ (l : List ℕ). IsAtRest l h) (sym same) rest) }
+
+-- so is a stage on its way or done, where the next one begins behind it
+pub passes_in : (stages : List Stage) (stage next : Stage) (h : History) → Contains stages stage → Contains stages next → next.kept ≡ after_stage stage → Passes stage h → IsInStage stages h
+passes_in stages stage next h among then same passes = elim passes [
+  | inl putting ↦ record { stage = stage; among = among; putting = putting }
+  | inr rest ↦ rest_in stages next (after_stage stage) h then same rest
+]
+
+module _ {D : Type 0} (tells : D → Bool) (history : D → History) where
+  -- what holds at each moment may be weaker
+  pub reaches_map : (L Q R : History → Type 0) → ((h : History) → Q h → R h) → (a b : D) → Reaches tells history L Q a b → Reaches tells history L R a b
+  reaches_map L Q R f a b r = record { before = r.before; step = λ t l. throughout_map Q R f (history a) (history b) (r.step t l) }
+
+  pub moves_map : (L M Q R : History → Type 0) → ((h : History) → Q h → R h) → (a b : D) → Moves tells history L M Q a b → Moves tells history L M R a b
+  moves_map L M Q R f a b m = record { before = m.before; step = λ t l. let x = m.step t l in (throughout_map Q R f (history a) (history b) x.0, x.1) }
+
+  module _ {T E : Type 0} where
+    -- one stage of several
+    pub perform_one : (stages : List Stage) (stage next : Stage) → Contains stages stage → Contains stages next → next.kept ≡ after_stage stage
+        → (result : Result T E) (a b : D) → Performs tells history stage result a b → PerformsAll tells history stage.kept (after_stage stage) stages result a b
+    perform_one stages stage next among then same result a b p = record {
+      reaches = reaches_map (IsAtRest stage.kept) (Passes stage) (IsInStage stages) (λ h. passes_in stages stage next h among then same) a b p.reaches;
+      ok = on_ok result _ _ (moves_map (IsAtRest stage.kept) (IsAtRest (after_stage stage)) (Passes stage) (IsInStage stages) (λ h. passes_in stages stage next h among then same) a b) p.ok;
+      kept_ok = p.kept;
+      lengths = p.lengths;
+    }
+
+    -- more stages behind them
+    pub perform_then : (stages : List Stage) (kept mid all : List ℕ) {F : Type 0} (x : T) (result : Result T E) (a b c : D)
+        → PerformsAll {E = F} tells history kept mid stages (Ok x) a b → PerformsAll tells history mid all stages result b c → PerformsAll tells history kept all stages result a c
+    perform_then stages kept mid all x result a b c first second = record {
+      reaches = reaches_then tells history (IsAtRest kept) (IsAtRest mid) (IsAtRest mid) (IsInStage stages) a b c second.reaches first.ok;
+      ok = on_ok result _ _ (λ m. moves_then tells history (IsAtRest kept) (IsAtRest mid) (IsAtRest all) (IsInStage stages) a b c m first.ok) second.ok;
+      kept_ok = on_ok result _ _ (λ f told is. f told (first.kept_ok (second.reaches.before told) is).bytes_are) second.kept_ok;
+      lengths = λ told. second.lengths told ∙ first.lengths (second.reaches.before told);
+    }
