@@ -1,3 +1,6 @@
 pub mod StageSteps
 pub mod ZeroedAreas
 pub mod AreaPuts
+pub mod BytesAt
+pub mod SuperblocksAt
+pub mod TornAreas
