@@ -4,3 +4,5 @@ pub mod AreaPuts
 pub mod BytesAt
 pub mod SuperblocksAt
 pub mod TornAreas
+pub mod MadeBlocks
+pub mod MadeSuperblocks
