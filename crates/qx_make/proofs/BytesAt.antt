@@ -3,6 +3,8 @@ use Rattle.std.proofs.Common.{◌≡◌, ℕ, ◌+◌, ◌-◌, ◌≤◌, ◌<�
 use Rattle.std.specs.Prelude.{slice_range, slice_index}
 use Rattle.std.proofs.lemmas.Bool.{cases_lt}
 use Rattle.std.proofs.lemmas.List.{ext_get_or, get_or-append_right, get_or-drop, get_or-replicate, get_or-take, get_or_append_left, get_or_past, length-replicate}
+use Rattle.qx_bytes.specs.Ranges.{put_at}
+use Rattle.qx_bytes.proofs.Puts.{byte_put_apart, byte_put_within, length_put}
 use Rattle.qx_outside.specs.Trail.{resized}
 
 -- two lists have the same bytes from a place up to another; past its end a list has 0
@@ -21,6 +23,9 @@ HasSame-within xs ys from to low high a b same = record { each = λ k l h. same.
 
 pub HasZeros-same : (xs ys : List ℕ) (from to : ℕ) → HasSame xs ys from to → HasZeros ys from to → HasZeros xs from to
 HasZeros-same xs ys from to a b = record { each = λ k low high. a.each k low high ∙ b.each k low high }
+
+pub HasZeros-within : (xs : List ℕ) (from to low high : ℕ) → from ≤ low → high ≤ to → HasZeros xs from to → HasZeros xs low high
+HasZeros-within xs from to low high a b zeros = record { each = λ k l h. zeros.each k (omega arith) (omega arith) }
 
 -- byte i of a range
 pub byte_of_range : (xs : List ℕ) (from to i : ℕ) → i < to - from → slice_index (slice_range xs from to) i ≡ slice_index xs (from + i)
@@ -49,6 +54,23 @@ range_zeros xs from n room zeros =
     ext_get_or 0 (slice_range xs from (from + n)) (replicate n 0) (length-range xs from (from + n) room ∙ (let e : from + n - from ≡ n = omega arith in e) ∙ sym (length-replicate n 0)) (λ i within.
     let below : i < from + n - from = omega (arith, length-range xs from (from + n) room) in
     byte_of_range xs from (from + n) i below ∙ zeros.each (from + i) (omega arith) (omega arith) ∙ sym (byte_of_zeros n i))
+
+-- ---- a put
+
+pub length-put : (xs others : List ℕ) (at : ℕ) → at + length others ≤ length xs → length (put_at xs at others) ≡ length xs
+length-put xs others at room = length_put xs others at (length others) refl room
+
+-- what lies apart from it stays
+pub HasSame-put : (xs others : List ℕ) (at from to : ℕ) → at ≤ length xs → (to ≤ at) ⊎ (at + length others ≤ from) → HasSame (put_at xs at others) xs from to
+HasSame-put xs others at from to room beside = record { each = λ k low high. byte_put_apart xs others at (length others) k refl (outside k low high beside) room }
+  where
+    outside : (k : ℕ) → from ≤ k → k < to → (to ≤ at) ⊎ (at + length others ≤ from) → (k < at) ⊎ (at + length others ≤ k)
+    outside k low high (inl before) = inl (omega arith)
+    outside k low high (inr behind) = inr (omega arith)
+
+-- bytes 0 that were put
+pub HasZeros-put : (xs others : List ℕ) (at : ℕ) → at ≤ length xs → ((i : ℕ) → slice_index others i ≡ 0) → HasZeros (put_at xs at others) at (at + length others)
+HasZeros-put xs others at room blank = record { each = λ k low high. byte_put_within xs others at (length others) k refl low high room ∙ blank (k - at) }
 
 -- ---- another length
 

@@ -6,3 +6,4 @@ pub mod SuperblocksAt
 pub mod TornAreas
 pub mod MadeBlocks
 pub mod MadeSuperblocks
+pub mod NewVolume

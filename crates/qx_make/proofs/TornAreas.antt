@@ -1,5 +1,5 @@
 -- What an image has after a cut during a stage: where a stage puts bytes 0 and where it puts nothing.
-use Rattle.std.proofs.Common.{◌≡◌, ℕ, zero, suc, ◌+◌, ◌-◌, ◌≤◌, ◌<◌, ◌⊎◌, inl, inr, List, [], ◌∷◌, length, min, replicate, Option, None, refl, ap, sym, ◌∙◌, subst, arith}
+use Rattle.std.proofs.Common.{◌≡◌, ℕ, zero, suc, Ok, Some, ◌+◌, ◌-◌, ◌≤◌, ◌<◌, ◌⊎◌, inl, inr, List, [], ◌∷◌, length, min, replicate, Option, None, refl, ap, sym, ◌∙◌, subst, arith}
 use Rattle.std.specs.Prelude.{slice_index, slice_range, Contains}
 use Rattle.std.specs.Result.{result_ok}
 use Rattle.std.proofs.lemmas.Bool.{cases_lt}
@@ -45,12 +45,12 @@ IsApartFrom-two a b k beside_a beside_b p among from to = elim (one_of_two a b p
 ]
 
 -- a part of a put as long as the whole is the whole
-pub whole_part : (at : ℕ) (bytes whole : List ℕ) (from : ℕ) → from ≤ at → at + 512 ≤ from + 512 → length bytes ≡ 512 → length whole ≡ 512 → bytes ≡ slice_range whole (at - from) (at - from + length bytes) → bytes ≡ whole
-whole_part at bytes whole from low high long as_long same =
+pub whole_part : (at from : ℕ) (bytes whole : List ℕ) → from ≡ at → length bytes ≡ 512 → length whole ≡ 512 → bytes ≡ slice_range whole (at - from) (at - from + length bytes) → bytes ≡ whole
+whole_part at from bytes whole here long as_long same =
     ext_get_or 0 bytes whole (omega arith) (λ i within.
     let part : slice_index bytes i ≡ slice_index (slice_range whole (at - from) (at - from + length bytes)) i = ap (λ (xs : List ℕ). slice_index xs i) same in
-    let here : at - from + i ≡ i = omega arith in
-    part ∙ byte_of_range whole (at - from) (at - from + length bytes) i (omega arith) ∙ ap (λ (k : ℕ). slice_index whole k) here)
+    let place : at - from + i ≡ i = omega arith in
+    part ∙ byte_of_range whole (at - from) (at - from + length bytes) i (omega arith) ∙ ap (λ (k : ℕ). slice_index whole k) place)
 
 -- each of the puts is bytes 0
 pub record AreZeros (puts : List Put) : Type 0 where
@@ -107,6 +107,22 @@ module _ (stage : Stage) (places : List ℕ) (img : List ℕ) (torn : IsTorn sta
           let all : slice_range img place (place + 512) ≡ replicate 512 0 = part_of_zeros stage.puts place (slice_range img place (place + 512)) zeros part ∙ ap (λ (n : ℕ). replicate n 0) long in
           inr (super_at-there img place room ∙ ap (λ (bytes : List ℕ). result_ok (superblock_of bytes (length img))) all ∙ ap result_ok (superblock_of-zeros (length img)))
       by_bytes room (invalid none) = inr (super_at-invalid img place room none)
+
+  -- where one part of a put fits a place whole, it has the superblock of that part, or none, if none was kept
+  pub torn_put : (place : ℕ) (whole : List ℕ) (s : Superblock) → Contains places place → place + 512 ≤ length img → super_at stage.kept place ≡ None
+      → ((bytes : List ℕ) → length bytes ≡ 512 → IsPartOf stage.puts place bytes → bytes ≡ whole) → superblock_of whole (length img) ≡ Ok s
+      → (super_at img place ≡ None) ⊎ (super_at img place ≡ Some s)
+  torn_put place whole s among room none only valid = by_bytes (torn.stands place among room)
+    where
+      by_bytes : MayBeLeft stage (length img) place (slice_range img place (place + 512)) → (super_at img place ≡ None) ⊎ (super_at img place ≡ Some s)
+      by_bytes (kept is) =
+          inl (super_at-there img place room ∙ ap (λ (bytes : List ℕ). result_ok (superblock_of bytes (length img))) is
+          ∙ ap (λ (len : ℕ). result_ok (superblock_of (slice_range stage.kept place (place + 512)) len)) torn.size
+          ∙ sym (super_at-there stage.kept place (omega (arith, torn.size))) ∙ none)
+      by_bytes (put part) =
+          let long : length (slice_range img place (place + 512)) ≡ 512 = length-range img place (place + 512) room ∙ (let e : place + 512 - place ≡ 512 = omega arith in e) in
+          inr (super_at-there img place room ∙ ap (λ (bytes : List ℕ). result_ok (superblock_of bytes (length img))) (only (slice_range img place (place + 512)) long part) ∙ ap result_ok valid)
+      by_bytes (invalid refused) = inl (super_at-invalid img place room refused)
 
 -- where nothing is put all is as it was kept
 pub torn_rest : (bytes : List ℕ) (places img : List ℕ) → IsTorn (record { kept = bytes; puts = [] }) places img → img ≡ bytes

@@ -1,0 +1,286 @@
+-- The stages that make a volume: which superblocks an image has meanwhile, and what is active at the end.
+use Rattle.std.proofs.Common.{◌≡◌, ℕ, ◌+◌, ◌-◌, ◌*◌, ◌^◌, ◌≤◌, ◌<◌, ◌⊎◌, inl, inr, List, [], ◌∷◌, length, replicate, Option, Some, None, Ok, refl, ap, sym, ◌∙◌, subst, arith}
+use Rattle.std.specs.Prelude.{slice_index, slice_range, Contains}
+use Rattle.std.specs.Result.{result_ok}
+use Rattle.std.proofs.lemmas.List.{length-replicate}
+use Rattle.qx_bytes.specs.Ranges.{put_at}
+use Rattle.qx_bytes.proofs.Puts.{range_put_same}
+use Rattle.qx_outside.specs.Puts.{IsApartFrom, IsPartOf, Put}
+use Rattle.qx_fields.specs.declared.order.Order.{Order}
+use Rattle.qx_geom.specs.declared.area.Which.{Which}
+use Rattle.qx_geom.specs.declared.area.Which.TheVariants.{First, Second}
+use Rattle.qx_geom.specs.declared.geometry.Geometry.{Geometry}
+use Rattle.qx_geom.specs.Layout.{IsGeometry, area_place, geometry_of, numbers_of, whole_length}
+use Rattle.qx_geom.proofs.SystemBlocks.{area_place-second}
+use Rattle.qx_geom.proofs.VolumeNumbers.{IsGeometry-of, geometry_of-numbers}
+use Rattle.qx_nodes.specs.BlockMap.{BlockMap}
+use Rattle.qx_model.specs.Tree.{Tree}
+use Rattle.qx_super.specs.declared.choice.Pick.TheVariants as picks
+use Rattle.qx_super.specs.Superblock.{Superblock, second_place_of, superblock_of}
+use Rattle.qx_super.specs.Written.{superblock_written}
+use Rattle.qx_super.specs.Active.{active_area, active_super, second_super}
+use Rattle.qx_super.proofs.ActiveAreas.{active-first_alone, active-second_alone, active-second_later}
+use Rattle.qx_view.specs.Images.{image_blocks, main_roots}
+use Rattle.qx_view.specs.Reading.{IsTreeOf}
+use Rattle.qx_make.specs.Blocks.{AreMade}
+use Rattle.qx_make.specs.Cut.{IsLeftByMaker, IsTorn, last_place, new_volume, nothing, places_of}
+use Rattle.qx_make.specs.Stages.{all_block_bytes, blocks_stage, supers_stage, with_blocks, with_supers}
+use Rattle.qx_make.specs.Superblocks.{made_super, made_super_bytes}
+use Rattle.qx_make.proofs.BytesAt.{HasSame, HasSame-put, HasSame-then, HasSame-within, HasZeros, HasZeros-put, HasZeros-same, HasZeros-within, length-put}
+use Rattle.qx_make.proofs.MadeBlocks.{HasBlocks, HasBlocks-put, HasBlocks-same, block_bytes-made, blocks-room, length_all_blocks}
+use Rattle.qx_make.proofs.MadeSuperblocks.{length_made_super, made-later, made-one_volume, second_place_of-made, superblock_of-made}
+use Rattle.qx_make.proofs.SuperblocksAt.{none_active, second_at, second_at-here, second_at-none, second_search-last, second_search-named, second_super-at, super_at, super_at-same, super_at-there, super_at-zeros}
+use Rattle.qx_make.proofs.TornAreas.{IsApartFrom-one, IsApartFrom-two, one_of_two, torn_apart, torn_put, whole_part}
+
+module _ (g : Geometry) (order : Order) (moment size : ℕ) (is_geometry : geometry_of size g.blocksize g.num_inodes ≡ Ok g) (in_time : moment < 2 ^ 32) where
+  -- ---- places
+
+  pub own_geometry : IsGeometry g
+  own_geometry = IsGeometry-of size g.blocksize g.num_inodes g is_geometry
+
+  whole : whole_length size ≡ g.len4
+  whole = ap (λ (h : Geometry). h.len4) (geometry_of-numbers size g.blocksize g.num_inodes g is_geometry)
+
+  -- the second area is where it is looked for if the first is none
+  pub last_place-second : last_place size ≡ area_place g Second
+  last_place-second = omega (arith, whole, area_place-second g own_geometry)
+
+  -- it lies behind the first, and within the device
+  pub second-room : area_place g Second + 4096 ≤ size
+  second-room = omega (arith, whole, area_place-second g own_geometry)
+
+  pub second-behind : 0x3000 ≤ area_place g Second
+  second-behind = omega arith
+
+  -- ---- what decides
+
+  -- the superblock of an area
+  abbrev pub made : Which → Superblock
+  made which = superblock_written (made_super g order moment which)
+
+  pub AreMade-image : (img : List ℕ) (which : Which) → length img ≡ size → HasBlocks g own_geometry order moment img → AreMade g order moment (image_blocks img (made which))
+  unfolding made_super
+  AreMade-image img which long has = record { order_is = refl; size = refl; count = refl; bytes = block_bytes-made g own_geometry order moment img (omega (arith, second-room)) has }
+
+  -- the second superblock is that at its place, whatever the first area has
+  second_super-unnamed : (img : List ℕ) → length img ≡ size → super_at img 0x2000 ≡ None → second_super img ≡ second_at img (area_place g Second)
+  second_super-unnamed img long none =
+      second_super-at img (area_place g Second) (second_search-last img none (omega (arith, second-room)) ∙ ap (λ (n : ℕ). Some (last_place n)) long ∙ ap (λ (p : ℕ). Some p) last_place-second)
+
+  second_super-named : (img : List ℕ) → super_at img 0x2000 ≡ Some (made First) → second_super img ≡ second_at img (area_place g Second)
+  second_super-named img first =
+      second_super-at img (area_place g Second) (second_search-named img (made First) first ∙ ap (λ (p : ℕ). Some p) (second_place_of-made g own_geometry order moment in_time First))
+
+  counts : (img : List ℕ) → super_at img (area_place g Second) ≡ Some (made Second) → second_at img (area_place g Second) ≡ Some (made Second)
+  counts img second = second_at-here img (area_place g Second) (made Second) second (second_place_of-made g own_geometry order moment in_time Second)
+
+  -- with neither no area is active
+  pub neither_active : (img : List ℕ) → length img ≡ size → super_at img 0x2000 ≡ None → second_at img (area_place g Second) ≡ None → active_area img ≡ picks.None
+  neither_active img long first second =
+      none_active img first (λ enough. ap (λ (n : ℕ). second_at img (last_place n)) long ∙ ap (λ (p : ℕ). second_at img p) last_place-second ∙ second)
+
+  -- with both the second is
+  pub both_active : (img : List ℕ) → super_at img 0x2000 ≡ Some (made First) → super_at img (area_place g Second) ≡ Some (made Second) → (active_area img ≡ picks.Active Second) × (active_super img ≡ Some (made Second))
+  both_active img first second =
+      active-second_later img (made First) (made Second) first (second_super-named img first ∙ counts img second) (made-one_volume g own_geometry order moment in_time) (made-later g own_geometry order moment in_time)
+
+  module _ (old : List ℕ) (t : Tree) (new_tree : (m : BlockMap) (which : Which) → AreMade g order moment m → IsTreeOf m (main_roots (made which)) t) where
+    -- an image with the new blocks gives no volume or the new one, with any of the two superblocks
+    left_new : (img : List ℕ) → length img ≡ size → HasBlocks g own_geometry order moment img → (super_at img 0x2000 ≡ None) ⊎ (super_at img 0x2000 ≡ Some (made First))
+        → (super_at img (area_place g Second) ≡ None) ⊎ (super_at img (area_place g Second) ≡ Some (made Second)) → IsLeftByMaker old t img
+    left_new img long has (inl first) (inl second) = nothing (neither_active img long first (second_at-none img (area_place g Second) second))
+    left_new img long has (inl first) (inr second) =
+        let active = active-second_alone img (made Second) first (second_super-unnamed img long first ∙ counts img second) in
+        new_volume (made Second, active.1, new_tree (image_blocks img (made Second)) Second (AreMade-image img Second long has))
+    left_new img long has (inr first) (inl second) =
+        let active = active-first_alone img (made First) first (second_super-named img first ∙ second_at-none img (area_place g Second) second) in
+        new_volume (made First, active.1, new_tree (image_blocks img (made First)) First (AreMade-image img First long has))
+    left_new img long has (inr first) (inr second) =
+        new_volume (made Second, (both_active img first second).1, new_tree (image_blocks img (made Second)) Second (AreMade-image img Second long has))
+
+  -- ---- the bytes after each stage
+
+  module _ (zeros : List ℕ) (wide : length zeros ≡ 4096) (blank : (i : ℕ) → slice_index zeros i ≡ 0) (bytes : List ℕ) (long : length bytes ≡ size) where
+    -- with the first area zeroed, and then the second
+    abbrev one : List ℕ
+    one = put_at bytes 0x2000 zeros
+
+    abbrev cleared : List ℕ
+    cleared = put_at one (area_place g Second) zeros
+
+    -- with the blocks between them
+    abbrev filled : List ℕ
+    filled = with_blocks g order moment cleared
+
+    -- with both superblocks
+    abbrev done : List ℕ
+    done = with_supers g order moment filled
+
+    length-one : length one ≡ size
+    length-one = length-put bytes zeros 0x2000 (omega (arith, second-room, second-behind)) ∙ long
+
+    pub length-cleared : length cleared ≡ size
+    length-cleared = length-put one zeros (area_place g Second) (omega (arith, second-room, length-one)) ∙ length-one
+
+    -- both areas are 0
+    first-zeros : HasZeros cleared 0x2000 0x3000
+    first-zeros =
+        HasZeros-same cleared one 0x2000 0x3000 (HasSame-put one zeros (area_place g Second) 0x2000 0x3000 (omega (arith, second-room, length-one)) (inl second-behind))
+        (HasZeros-within one 0x2000 (0x2000 + length zeros) 0x2000 0x3000 (omega arith) (omega arith) (HasZeros-put bytes zeros 0x2000 (omega (arith, second-room)) blank))
+
+    second-zeros : HasZeros cleared (area_place g Second) (area_place g Second + 512)
+    second-zeros =
+        HasZeros-within cleared (area_place g Second) (area_place g Second + length zeros) (area_place g Second) (area_place g Second + 512) (omega arith) (omega arith)
+        (HasZeros-put one zeros (area_place g Second) (omega (arith, second-room, length-one)) blank)
+
+    -- images with the same bytes there have no superblock
+    first-none : (img : List ℕ) → HasSame img cleared 0x2000 0x3000 → super_at img 0x2000 ≡ None
+    first-none img same =
+        super_at-zeros img 0x2000 (HasZeros-within img 0x2000 0x3000 0x2000 (0x2000 + 512) (omega arith) (omega arith) (HasZeros-same img cleared 0x2000 0x3000 same first-zeros))
+
+    second-none : (img : List ℕ) → HasSame img cleared (area_place g Second) (area_place g Second + 512) → super_at img (area_place g Second) ≡ None
+    second-none img same =
+        super_at-zeros img (area_place g Second) (HasZeros-same img cleared (area_place g Second) (area_place g Second + 512) same second-zeros)
+
+    -- the blocks lie apart from both
+    pub length-filled : length filled ≡ size
+    length-filled =
+        length-put cleared (all_block_bytes g order moment) 0x3000 (omega (arith, second-room, length-cleared, blocks-room g own_geometry order moment)) ∙ length-cleared
+
+    first-apart : HasSame filled cleared 0x2000 0x3000
+    first-apart =
+        HasSame-put cleared (all_block_bytes g order moment) 0x3000 0x2000 0x3000 (omega (arith, second-room, second-behind, length-cleared)) (inl (omega arith))
+
+    second-apart : HasSame filled cleared (area_place g Second) (area_place g Second + 512)
+    second-apart =
+        HasSame-put cleared (all_block_bytes g order moment) 0x3000 (area_place g Second) (area_place g Second + 512) (omega (arith, second-room, second-behind, length-cleared)) (inr (blocks-room g own_geometry order moment))
+
+    filled-blocks : HasBlocks g own_geometry order moment filled
+    filled-blocks = HasBlocks-put g own_geometry order moment cleared (omega (arith, second-room, second-behind, length-cleared))
+
+    -- while the blocks are put no area is active
+    pub active_area-blocks : (places img : List ℕ) → IsTorn (blocks_stage g order moment cleared) places img → active_area img ≡ picks.None
+    active_area-blocks places img torn =
+        let stage = blocks_stage g order moment cleared in
+        let blocks : Put = record { at = 0x3000; bytes = all_block_bytes g order moment } in
+        let second = area_place g Second in
+        neither_active img (torn.size ∙ length-cleared)
+        (first-none img (torn_apart stage places img torn 0x2000 0x3000 (λ k low high. IsApartFrom-one blocks k (inl high))))
+        (second_at-none img second (second-none img (torn_apart stage places img torn second (second + 512) (λ k low high. IsApartFrom-one blocks k (inr (omega (arith, blocks-room g own_geometry order moment)))))))
+
+    -- ---- the superblocks
+
+    abbrev first_bytes : List ℕ
+    first_bytes = made_super_bytes g order moment First
+
+    abbrev second_bytes : List ℕ
+    second_bytes = made_super_bytes g order moment Second
+
+    length-first : length first_bytes ≡ 512
+    length-first = length_made_super g own_geometry order moment in_time First
+
+    length-second : length second_bytes ≡ 512
+    length-second = length_made_super g own_geometry order moment in_time Second
+
+    first-valid : (len : ℕ) → len ≡ size → superblock_of first_bytes len ≡ Ok (made First)
+    first-valid len e = superblock_of-made g own_geometry order moment in_time First len (omega (arith, second-room))
+
+    second-valid : (len : ℕ) → len ≡ size → superblock_of second_bytes len ≡ Ok (made Second)
+    second-valid len e = superblock_of-made g own_geometry order moment in_time Second len (omega (arith, second-room))
+
+    first_put : Put
+    first_put = record { at = 0x2000; bytes = first_bytes }
+
+    second_put : Put
+    second_put = record { at = area_place g Second; bytes = second_bytes }
+
+    -- a part that fits the first area's place whole is the first superblock
+    first-only : (part : List ℕ) → length part ≡ 512 → IsPartOf (supers_stage g order moment filled).puts 0x2000 part → part ≡ first_bytes
+    unfolding first_put second_put
+    first-only part full p = elim (one_of_two first_put second_put p.put p.among) [
+      | inl is ↦
+          let at : p.put.at ≡ 0x2000 = sym (ap (λ (q : Put). q.at) is) in
+          let same : p.put.bytes ≡ first_bytes = sym (ap (λ (q : Put). q.bytes) is) in
+          whole_part 0x2000 p.put.at part p.put.bytes at full (ap length same ∙ length-first) p.same ∙ same
+      | inr is ↦ let at : p.put.at ≡ area_place g Second = sym (ap (λ (q : Put). q.at) is) in let low : p.put.at ≤ 0x2000 = p.from in absurd (omega (arith, second-behind))
+    ]
+
+    second-only : (part : List ℕ) → length part ≡ 512 → IsPartOf (supers_stage g order moment filled).puts (area_place g Second) part → part ≡ second_bytes
+    unfolding first_put second_put
+    second-only part full p = elim (one_of_two first_put second_put p.put p.among) [
+      | inl is ↦
+          let at : p.put.at ≡ 0x2000 = sym (ap (λ (q : Put). q.at) is) in
+          let same : p.put.bytes ≡ first_bytes = sym (ap (λ (q : Put). q.bytes) is) in
+          let high : area_place g Second + length part ≤ p.put.at + length p.put.bytes = p.to in
+          absurd (omega (arith, second-behind, ap length same, length-first))
+      | inr is ↦
+          let at : p.put.at ≡ area_place g Second = sym (ap (λ (q : Put). q.at) is) in
+          let same : p.put.bytes ≡ second_bytes = sym (ap (λ (q : Put). q.bytes) is) in
+          whole_part (area_place g Second) p.put.at part p.put.bytes at full (ap length same ∙ length-second) p.same ∙ same
+    ]
+
+    -- bytes between the areas are in the place of neither
+    between : (k : ℕ) → 0x3000 ≤ k → k < area_place g Second → IsApartFrom (supers_stage g order moment filled).puts k
+    between k low high = IsApartFrom-two (record { at = 0x2000; bytes = first_bytes }) (record { at = area_place g Second; bytes = second_bytes }) k (inr (omega (arith, length-first))) (inl high)
+
+    module _ (old : List ℕ) (t : Tree) (new_tree : (m : BlockMap) (which : Which) → AreMade g order moment m → IsTreeOf m (main_roots (made which)) t) where
+      -- while they are put an image gives no volume or the new one
+      pub left-supers : (img : List ℕ) → IsTorn (supers_stage g order moment filled) (places_of old size) img → IsLeftByMaker old t img
+      left-supers img torn =
+          let stage = supers_stage g order moment filled in
+          let places = places_of old size in
+          let second = area_place g Second in
+          let long_img : length img ≡ size = torn.size ∙ length-filled in
+          left_new old t new_tree img long_img
+          (HasBlocks-same g own_geometry order moment img filled (torn_apart stage places img torn 0x3000 second between) filled-blocks)
+          (torn_put stage places img torn 0x2000 first_bytes (made First) (0, omega arith, refl) (omega (arith, second-room, second-behind)) (first-none filled first-apart) first-only (first-valid (length img) long_img))
+          (torn_put stage places img torn second second_bytes (made Second) (1, omega arith, last_place-second) (omega (arith, second-room)) (second-none filled second-apart) second-only (second-valid (length img) long_img))
+
+    -- ---- the end
+
+    with_first : List ℕ
+    with_first = put_at filled 0x2000 first_bytes
+
+    length-with_first : length (put_at filled 0x2000 first_bytes) ≡ size
+    length-with_first = length-put filled first_bytes 0x2000 (omega (arith, second-room, second-behind, length-first, length-filled)) ∙ length-filled
+
+    pub length-done : length done ≡ size
+    length-done = length-put (put_at filled 0x2000 first_bytes) second_bytes (area_place g Second) (omega (arith, second-room, length-second, length-with_first)) ∙ length-with_first
+
+    done-blocks : HasBlocks g own_geometry order moment done
+    done-blocks =
+        let start = put_at filled 0x2000 first_bytes in
+        HasBlocks-same g own_geometry order moment done filled
+        (HasSame-then done start filled 0x3000 (area_place g Second)
+        (HasSame-put start second_bytes (area_place g Second) 0x3000 (area_place g Second) (omega (arith, second-room, length-with_first)) (inl (omega arith)))
+        (HasSame-put filled first_bytes 0x2000 0x3000 (area_place g Second) (omega (arith, second-room, second-behind, length-filled)) (inr (omega (arith, length-first)))))
+        filled-blocks
+
+    -- what was put whole is there
+    super_at-put : (xs whole : List ℕ) (at : ℕ) (s : Superblock) → length whole ≡ 512 → at + 512 ≤ length xs → superblock_of whole (length xs) ≡ Ok s → super_at (put_at xs at whole) at ≡ Some s
+    super_at-put xs whole at s full room valid =
+        let img = put_at xs at whole in
+        let same_length : length img ≡ length xs = length-put xs whole at (omega arith) in
+        let there : slice_range img at (at + length whole) ≡ whole = range_put_same xs whole at (length whole) refl (omega arith) in
+        super_at-there img at (omega arith)
+        ∙ ap (λ (n : ℕ). result_ok (superblock_of (slice_range img at (at + n)) (length img))) (sym full)
+        ∙ ap (λ (bytes : List ℕ). result_ok (superblock_of bytes (length img))) there
+        ∙ ap (λ (len : ℕ). result_ok (superblock_of whole len)) same_length
+        ∙ ap result_ok valid
+
+    done-first : super_at done 0x2000 ≡ Some (made First)
+    done-first =
+        let start = put_at filled 0x2000 first_bytes in
+        super_at-same done start 0x2000 (length-done ∙ sym length-with_first) (HasSame-put start second_bytes (area_place g Second) 0x2000 (0x2000 + 512) (omega (arith, second-room, length-with_first)) (inl (omega (arith, second-behind))))
+        ∙ super_at-put filled first_bytes 0x2000 (made First) length-first (omega (arith, second-room, second-behind, length-filled)) (first-valid (length filled) length-filled)
+
+    done-second : super_at done (area_place g Second) ≡ Some (made Second)
+    done-second =
+        let start = put_at filled 0x2000 first_bytes in
+        super_at-put start second_bytes (area_place g Second) (made Second) length-second (omega (arith, second-room, length-with_first)) (second-valid (length start) length-with_first)
+
+    pub active-done : (active_area done ≡ picks.Active Second) × (active_super done ≡ Some (made Second))
+    active-done = both_active done done-first done-second
+
+    pub AreMade-done : AreMade g order moment (image_blocks done (made Second))
+    AreMade-done = AreMade-image done Second length-done done-blocks
