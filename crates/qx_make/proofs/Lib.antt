@@ -7,3 +7,4 @@ pub mod TornAreas
 pub mod MadeBlocks
 pub mod MadeSuperblocks
 pub mod NewVolume
+pub mod OldVolume

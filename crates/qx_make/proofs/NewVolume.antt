@@ -238,9 +238,6 @@ module _ (g : Geometry) (order : Order) (moment size : ℕ) (is_geometry : geome
 
     -- ---- the end
 
-    with_first : List ℕ
-    with_first = put_at filled 0x2000 first_bytes
-
     length-with_first : length (put_at filled 0x2000 first_bytes) ≡ size
     length-with_first = length-put filled first_bytes 0x2000 (omega (arith, second-room, second-behind, length-first, length-filled)) ∙ length-filled
 

@@ -1,6 +1,6 @@
 -- The superblock at a place of an image, and how those at the places that are looked at decide which area is active.
 use Rattle.std.proofs.Common.{◌≡◌, ℕ, ◌+◌, ◌-◌, ◌≤◌, ◌<◌, ◌⊎◌, inl, inr, Bool, true, false, List, length, replicate, Option, Some, None, Result, Ok, Err, refl, ap, sym, ◌∙◌, arith, if◌then◌else◌}
-use Rattle.std.specs.Prelude.{option_and_then, slice_range, nat_le, ◌==◌}
+use Rattle.std.specs.Prelude.{option_and_then, slice_range, nat_le, nat_lt, ◌==◌}
 use Rattle.std.specs.Result.{result_ok}
 use Rattle.std.proofs.lemmas.Bool.{cases_lt, lt-leb, le-leb, eqb-true, eq-eqb}
 use Rattle.qx_geom.specs.Layout.{whole_length}
@@ -8,7 +8,7 @@ use Rattle.qx_geom.specs.declared.area.Which.TheVariants.{First, Second}
 use Rattle.qx_super.specs.declared.choice.Pick.TheVariants as picks
 use Rattle.qx_super.specs.Superblock.{Superblock, has_right_checksum, second_place_of, superblock_of}
 use Rattle.qx_super.specs.declared.superblock.SuperFault.{SuperFault}
-use Rattle.qx_super.specs.Active.{active_area, active_super, area_at, first_super, only_at, second_search, second_super, searched_place, valid_area}
+use Rattle.qx_super.specs.Active.{active_area, active_super, area_at, first_super, is_same_volume, only_at, pick_of, second_search, second_super, searched_place, super_of_pick, valid_area}
 use Rattle.qx_super.proofs.ActiveAreas.{active-none, superblock_of-zeros}
 use Rattle.qx_super.proofs.SuperblockTests.{superblock_of-wrong}
 use Rattle.qx_make.specs.Cut.{last_place}
@@ -120,6 +120,32 @@ second_search-last img e long =
 pub second_search-none : (img : List ℕ) → super_at img 0x2000 ≡ None → length img < 4096 → second_search img ≡ None
 second_search-none img e short =
     ap (λ (first : Option Superblock). searched_place (length img) first) e ∙ ap (λ (b : Bool). if b then Some (last_place (length img)) else None) (lt-leb 4096 (length img) short)
+
+-- with both superblocks those of another image, that image's area is active
+pub active-same : (img other : List ℕ) → first_super img ≡ first_super other → second_super img ≡ second_super other → (active_area img ≡ active_area other) × (active_super img ≡ active_super other)
+unfolding active_area active_super
+active-same img other first second = (
+  ap (λ (a : Option Superblock). pick_of a (second_super img)) first ∙ ap (λ (b : Option Superblock). pick_of (first_super other) b) second,
+  ap (λ (a : Option Superblock). super_of_pick (pick_of a (second_super img)) a (second_super img)) first
+      ∙ ap (λ (b : Option Superblock). super_of_pick (pick_of (first_super other) b) (first_super other) b) second,
+)
+
+-- a choice between two that are there is one of them, or they disagree
+both_picked : (same later : Bool) → (if same then (if later then picks.Active Second else picks.Active First) else picks.Disagree) ≡ picks.None → ⊥
+both_picked true true e = absurd (cc e)
+both_picked true false e = absurd (cc e)
+both_picked false later e = absurd (cc e)
+
+none_picked : (a b : Option Superblock) → pick_of a b ≡ picks.None → (a ≡ None) × (b ≡ None)
+none_picked None None e = (refl, refl)
+none_picked (Some a) None e = absurd (cc e)
+none_picked None (Some b) e = absurd (cc e)
+none_picked (Some a) (Some b) e = absurd (both_picked (is_same_volume a b) (nat_lt a.serial b.serial) e)
+
+-- with no active area there are none
+pub none_there : (img : List ℕ) → active_area img ≡ picks.None → (super_at img 0x2000 ≡ None) × (second_super img ≡ None)
+unfolding active_area
+none_there img e = none_picked (first_super img) (second_super img) e
 
 -- with no first superblock, and none that counts at the last place, no area is active
 pub none_active : (img : List ℕ) → super_at img 0x2000 ≡ None → (4096 ≤ length img → second_at img (last_place (length img)) ≡ None) → active_area img ≡ picks.None
