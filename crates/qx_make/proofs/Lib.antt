@@ -8,3 +8,5 @@ pub mod MadeBlocks
 pub mod MadeSuperblocks
 pub mod NewVolume
 pub mod OldVolume
+pub mod ClearedAreas
+pub mod OldAreas
