@@ -10,3 +10,5 @@ pub mod NewVolume
 pub mod OldVolume
 pub mod ClearedAreas
 pub mod OldAreas
+pub mod TornStages
+pub mod TornImages

@@ -56,17 +56,15 @@ whole_part at from bytes whole here long as_long same =
 pub record AreZeros (puts : List Put) : Type 0 where
   pub each : (p : Put) → Contains puts p → (n : ℕ) × (p.bytes ≡ replicate n 0)
 
-pub AreZeros-none : AreZeros []
-AreZeros-none = record { each = λ p among. absurd (let l = among.1 in omega arith) }
-
 pub AreZeros-one : (at n : ℕ) → AreZeros (record { at = at; bytes = replicate n 0 } ∷ [])
 AreZeros-one at n = record { each = λ p among. (n, sym (ap (λ (q : Put). q.bytes) (only_one (record { at = at; bytes = replicate n 0 }) p among))) }
 
-pub AreZeros-two : (at n other m : ℕ) → AreZeros (record { at = at; bytes = replicate n 0 } ∷ record { at = other; bytes = replicate m 0 } ∷ [])
-AreZeros-two at n other m = record {
-  each = λ p among. elim (one_of_two (record { at = at; bytes = replicate n 0 }) (record { at = other; bytes = replicate m 0 }) p among) [
-    | inl is ↦ (n, sym (ap (λ (q : Put). q.bytes) is))
-    | inr is ↦ (m, sym (ap (λ (q : Put). q.bytes) is))
+-- the same bytes 0 at two places
+pub AreZeros-both : (at other n : ℕ) (zeros : List ℕ) → zeros ≡ replicate n 0 → AreZeros (record { at = at; bytes = zeros } ∷ record { at = other; bytes = zeros } ∷ [])
+AreZeros-both at other n zeros are = record {
+  each = λ p among. elim (one_of_two (record { at = at; bytes = zeros }) (record { at = other; bytes = zeros }) p among) [
+    | inl is ↦ (n, sym (ap (λ (q : Put). q.bytes) is) ∙ are)
+    | inr is ↦ (n, sym (ap (λ (q : Put). q.bytes) is) ∙ are)
   ];
 }
 
