@@ -1,5 +1,5 @@
 -- Bytes one by one: what two lists have alike, and what a put and a new length leave of each byte.
-use Rattle.std.proofs.Common.{◌≡◌, ℕ, ◌+◌, ◌-◌, ◌≤◌, ◌<◌, ◌⊎◌, inl, inr, List, ◌++◌, length, take, drop, replicate, min, refl, ap, sym, ◌∙◌, arith, length-append, length-drop, length-take}
+use Rattle.std.proofs.Common.{◌≡◌, ℕ, ◌+◌, ◌-◌, ◌≤◌, ◌<◌, ◌⊎◌, inl, inr, List, ◌++◌, length, take, drop, replicate, refl, sym, ◌∙◌, arith, length-append, length-drop, length-take}
 use Rattle.std.specs.Prelude.{slice_range, slice_index}
 use Rattle.std.proofs.lemmas.Bool.{cases_lt}
 use Rattle.std.proofs.lemmas.List.{ext_get_or, get_or-append_right, get_or-drop, get_or-replicate, get_or-take, get_or_append_left, get_or_past, length-replicate}
@@ -15,15 +15,15 @@ pub record HasSame (xs ys : List ℕ) (from to : ℕ) : Type 0 where
 pub record HasZeros (xs : List ℕ) (from to : ℕ) : Type 0 where
   pub each : (k : ℕ) → from ≤ k → k < to → slice_index xs k ≡ 0
 
+-- what is the same as the same
 pub HasSame-then : (xs ys zs : List ℕ) (from to : ℕ) → HasSame xs ys from to → HasSame ys zs from to → HasSame xs zs from to
 HasSame-then xs ys zs from to a b = record { each = λ k low high. a.each k low high ∙ b.each k low high }
 
-pub HasSame-within : (xs ys : List ℕ) (from to low high : ℕ) → from ≤ low → high ≤ to → HasSame xs ys from to → HasSame xs ys low high
-HasSame-within xs ys from to low high a b same = record { each = λ k l h. same.each k (omega arith) (omega arith) }
-
+-- what is the same as bytes 0
 pub HasZeros-same : (xs ys : List ℕ) (from to : ℕ) → HasSame xs ys from to → HasZeros ys from to → HasZeros xs from to
 HasZeros-same xs ys from to a b = record { each = λ k low high. a.each k low high ∙ b.each k low high }
 
+-- a part of bytes 0
 pub HasZeros-within : (xs : List ℕ) (from to low high : ℕ) → from ≤ low → high ≤ to → HasZeros xs from to → HasZeros xs low high
 HasZeros-within xs from to low high a b zeros = record { each = λ k l h. zeros.each k (omega arith) (omega arith) }
 
@@ -31,6 +31,7 @@ HasZeros-within xs from to low high a b zeros = record { each = λ k l h. zeros.
 pub byte_of_range : (xs : List ℕ) (from to i : ℕ) → i < to - from → slice_index (slice_range xs from to) i ≡ slice_index xs (from + i)
 byte_of_range xs from to i within = get_or-take (to - from) (drop from xs) i 0 within ∙ get_or-drop from xs i 0
 
+-- how long a range is
 pub length-range : (xs : List ℕ) (from to : ℕ) → to ≤ length xs → length (slice_range xs from to) ≡ to - from
 length-range xs from to room = omega (arith, length-take (to - from) (drop from xs), length-drop from xs)
 
@@ -57,6 +58,7 @@ range_zeros xs from n room zeros =
 
 -- ---- a put
 
+-- a put within the list leaves the length
 pub length-put : (xs others : List ℕ) (at : ℕ) → at + length others ≤ length xs → length (put_at xs at others) ≡ length xs
 length-put xs others at room = length_put xs others at (length others) refl room
 
@@ -74,6 +76,7 @@ HasZeros-put xs others at room blank = record { each = λ k low high. byte_put_w
 
 -- ---- another length
 
+-- the new length
 pub length-resized : (xs : List ℕ) (size : ℕ) → length (resized xs size) ≡ size
 length-resized xs size = omega (arith, length-append (take size xs) (replicate (size - length xs) 0), length-take size xs, length-replicate {A = ℕ} (size - length xs) 0)
 

@@ -1,5 +1,5 @@
 -- The old areas once they are zeroed: no superblock is left where one is looked for, in the old length or the new.
-use Rattle.std.proofs.Common.{◌≡◌, ℕ, ◌+◌, ◌-◌, ◌*◌, ◌/◌, ◌≤◌, ◌<◌, ◌⊎◌, inl, inr, List, [], ◌∷◌, length, Option, Some, None, Ok, refl, ap, sym, ◌∙◌, subst, arith}
+use Rattle.std.proofs.Common.{◌≡◌, ℕ, ◌+◌, ◌-◌, ◌*◌, ◌/◌, ◌≤◌, ◌⊎◌, inl, inr, List, length, Option, Some, None, Ok, refl, ap, sym, ◌∙◌, arith}
 use Rattle.std.specs.Prelude.{slice_range}
 use Rattle.std.specs.Result.{result_ok}
 use Rattle.std.proofs.lemmas.Bool.{cases_eq, cases_lt}
@@ -11,7 +11,7 @@ use Rattle.qx_view.proofs.ImageTrees.{some_same}
 use Rattle.qx_make.specs.Cut.{HasNoOtherSuperblock, last_place}
 use Rattle.qx_make.specs.Stages.{after_stage, zero_stage}
 use Rattle.qx_make.proofs.BytesAt.{HasSame, HasSame-then, HasZeros, HasZeros-same, HasZeros-within, range_same}
-use Rattle.qx_make.proofs.OldVolume.{IsActiveFirst, IsActiveSecond, IsPlace, nothing_elsewhere}
+use Rattle.qx_make.proofs.OldVolume.{IsActiveFirst, IsActiveSecond, nothing_elsewhere}
 use Rattle.qx_make.proofs.SuperblocksAt.{none_there, second_at, second_at-here, second_at-is, second_at-none, second_search-last, second_search-none, second_super-at, super_at, super_at-there, super_at-valid, super_at-zeros}
 use Rattle.qx_make.proofs.TornAreas.{length-zeroed, zeroed-apart, zeroed-within}
 
@@ -19,6 +19,7 @@ use Rattle.qx_make.proofs.TornAreas.{length-zeroed, zeroed-apart, zeroed-within}
 pub last_parts : ℕ → ℕ
 last_parts len = (len / 4096 - 1) * 8
 
+-- so many times 512
 pub last_place-aligned : (len : ℕ) → last_place len ≡ last_parts len * 512
 unfolding last_parts
 last_place-aligned len = omega arith

@@ -1,12 +1,11 @@
 -- The blocks of a new volume on the device: each has its length, and stands at its place.
-use Rattle.std.proofs.Common.{◌≡◌, ℕ, zero, suc, ◌+◌, ◌-◌, ◌*◌, ◌/◌, ◌≤◌, ◌<◌, ◌⊎◌, inl, inr, Bool, true, false, List, [], ◌∷◌, ◌++◌, length, replicate, refl, ap, sym, ◌∙◌, arith, ⊎_elim, eqb-true, length-append, if◌then◌else◌}
+use Rattle.std.proofs.Common.{◌≡◌, ℕ, zero, suc, ◌+◌, ◌-◌, ◌*◌, ◌/◌, ◌≤◌, ◌<◌, Bool, true, false, List, [], ◌∷◌, ◌++◌, length, replicate, refl, ap, sym, ◌∙◌, arith, ⊎_elim, eqb-true, length-append, if◌then◌else◌}
 use Rattle.std.specs.Prelude.{slice_index, slice_range, flat_map, nat_lt, ◌==◌}
 use Rattle.std.specs.List.{range_with_len}
 use Rattle.std.proofs.lemmas.Bool.{or_cases}
 use Rattle.std.proofs.lemmas.List.{ext_get_or, get_or-append_right, get_or_append_left, length-replicate}
 use Rattle.std.proofs.lemmas.List.FromFn.{length-map-range_with_len}
 use Rattle.std.proofs.lemmas.Nat.{mul-le}
-use Rattle.qx_bytes.specs.Ranges.{put_at}
 use Rattle.qx_bytes.proofs.Puts.{byte_put_within}
 use Rattle.qx_fields.specs.declared.order.Order.{Order}
 use Rattle.qx_fields.specs.Number.{digits}
@@ -14,7 +13,7 @@ use Rattle.qx_fields.proofs.Fields.{length_digits}
 use Rattle.qx_geom.specs.declared.area.Which.{Which}
 use Rattle.qx_geom.specs.declared.area.Which.TheVariants.{First, Second}
 use Rattle.qx_geom.specs.declared.geometry.Geometry.{Geometry}
-use Rattle.qx_geom.specs.Layout.{IsGeometry, area_place, block_place, is_block_size, system_word_of, first_block}
+use Rattle.qx_geom.specs.Layout.{IsGeometry, area_place, is_block_size, system_word_of, first_block}
 use Rattle.qx_geom.specs.Pointer.{per_block}
 use Rattle.qx_geom.proofs.BlockSizes.{block_size-bounds}
 use Rattle.qx_geom.proofs.VolumeNumbers.{IsGeometry-keeps}
@@ -25,6 +24,7 @@ use Rattle.qx_make.proofs.BytesAt.{HasSame, byte_of_range, length-range}
 -- ---- parts of one length
 
 module _ (f : ℕ → List ℕ) (size : ℕ) (each : (k : ℕ) → length (f k) ≡ size) where
+  -- their length
   pub length-parts : (n a : ℕ) → length (flat_map f (range_with_len a n)) ≡ n * size
   length-parts zero a = let none : 0 ≡ 0 * size = omega arith in none
   length-parts (suc n) a = omega (arith, length-append (f a) (flat_map f (range_with_len (a + 1) n)), each a, length-parts n (a + 1))
@@ -50,15 +50,18 @@ module _ (f : ℕ → List ℕ) (size : ℕ) (each : (k : ℕ) → length (f k) 
 fill_at : (b n : ℕ) → n / 4 * 4 ≡ n → (b == n) ≡ true → per_block b * 4 ≡ b
 fill_at b n e t = let same : b ≡ n = eqb-true b n t in ap (λ (x : ℕ). x / 4 * 4) same ∙ e ∙ sym same
 
+-- for each block size
 per_block-fill : (b : ℕ) → is_block_size b ≡ true → per_block b * 4 ≡ b
 per_block-fill b t =
     ⊎_elim (λ t'. ⊎_elim (λ t''. ⊎_elim (fill_at b 512 refl) (fill_at b 1024 refl) (or_cases _ _ t'')) (fill_at b 2048 refl) (or_cases _ _ t')) (fill_at b 4096 refl) (or_cases _ _ t)
 
+-- an inode has 128 bytes
 length_top_inode : (order : Order) (size block moment : ℕ) → length (top_inode_bytes order size block moment) ≡ 128
 unfolding top_inode_bytes
 length_top_inode order size block moment =
     omega (arith, length-append {A = ℕ}, length-replicate {A = ℕ}, length_digits order 8 size, length_digits order 4 moment, length_digits order 2 0x41ED, length_digits order 4 block)
 
+-- a row has 32 bytes
 length_row : (order : Order) (inode : ℕ) (name : List ℕ) → length name ≤ 27 → length (row_bytes order inode name) ≡ 32
 length_row order inode name short = omega (arith, length-append {A = ℕ}, length-replicate {A = ℕ}, length_digits order 4 inode)
 
@@ -68,18 +71,22 @@ length_either true xs ys n x y = x
 length_either false xs ys n x y = y
 
 module _ (g : Geometry) (e : IsGeometry g) (order : Order) (moment : ℕ) where
+  -- the block size is one of the four
   sized : is_block_size g.blocksize ≡ true
   sized = (IsGeometry-keeps g e).block_size
 
+  -- a leaf of the bitmap
   length_bitmap_leaf : (i : ℕ) → length (bitmap_leaf_bytes g i) ≡ g.blocksize
   unfolding bitmap_leaf_bytes
   length_bitmap_leaf i = length-map-range_with_len (λ (k : ℕ). bitmap_byte g (i * g.blocksize + k)) 0 g.blocksize
 
+  -- a pointer block
   length_pointer_block : (which : Which) (bitmap : Bool) (b : ℕ) → length (pointer_block_bytes g order which bitmap b) ≡ g.blocksize
   unfolding pointer_block_bytes
   length_pointer_block which bitmap b =
       length-parts (λ (w : ℕ). digits order 4 (system_word_of g which bitmap b w)) 4 (λ w. length_digits order 4 (system_word_of g which bitmap b w)) (per_block g.blocksize) 0 ∙ per_block-fill g.blocksize sized
 
+  -- a leaf of the inodes
   length_inode_leaf : (i : ℕ) → length (inode_leaf_bytes g order moment i) ≡ g.blocksize
   unfolding inode_leaf_bytes
   length_inode_leaf i =
@@ -89,6 +96,7 @@ module _ (g : Geometry) (e : IsGeometry g) (order : Order) (moment : ℕ) where
       (omega (arith, length-append inode (replicate (g.blocksize - 128) 0), length_top_inode order g.blocksize (top_block g) moment, length-replicate {A = ℕ} (g.blocksize - 128) 0))
       (length-replicate g.blocksize 0)
 
+  -- the block of the root directory
   length_top_directory : length (top_directory_bytes order g.blocksize) ≡ g.blocksize
   unfolding top_directory_bytes
   length_top_directory =
@@ -98,6 +106,7 @@ module _ (g : Geometry) (e : IsGeometry g) (order : Order) (moment : ℕ) where
       let rest : List ℕ = replicate (g.blocksize - 64) 0 in
       omega (arith, length-append dot (dots ++ rest), length-append dots rest, length-append (dot ++ dots) rest, length-append dot dots, length_row order 1 (46 ∷ []) (omega arith), length_row order 1 (46 ∷ 46 ∷ []) (omega arith), length-replicate {A = ℕ} (g.blocksize - 64) 0)
 
+  -- each block of a half
   length_half_block : (which : Which) (r : ℕ) → length (half_block_bytes g order moment which r) ≡ g.blocksize
   length_half_block which r =
       length_either (nat_lt r g.bitmap_leaves) _ _ g.blocksize (length_bitmap_leaf r)
@@ -105,6 +114,7 @@ module _ (g : Geometry) (e : IsGeometry g) (order : Order) (moment : ℕ) where
       (length_either (nat_lt r (g.bitmap_leaves + g.bitmap_pointers + g.inode_leaves)) _ _ g.blocksize (length_inode_leaf (r - (g.bitmap_leaves + g.bitmap_pointers)))
       (length_pointer_block which false (first_block g which + r))))
 
+  -- each block that is written
   pub length_made_block : (b : ℕ) → length (made_block_bytes g order moment b) ≡ g.blocksize
   unfolding made_block_bytes
   length_made_block b =
@@ -112,10 +122,12 @@ module _ (g : Geometry) (e : IsGeometry g) (order : Order) (moment : ℕ) where
 
   -- ---- all of them
 
+  -- their length
   pub length_all_blocks : length (all_block_bytes g order moment) ≡ (top_block g + 1) * g.blocksize
   unfolding all_block_bytes
   length_all_blocks = length-parts (made_block_bytes g order moment) g.blocksize length_made_block (top_block g + 1) 0
 
+  -- a byte of a block among them
   byte_of_block : (b j : ℕ) → b ≤ top_block g → j < g.blocksize → slice_index (all_block_bytes g order moment) (b * g.blocksize + j) ≡ slice_index (made_block_bytes g order moment b) j
   unfolding all_block_bytes
   byte_of_block b j within below = byte_of_part (made_block_bytes g order moment) g.blocksize length_made_block (top_block g + 1) 0 b j (omega arith) below ∙ ap (λ (k : ℕ). slice_index (made_block_bytes g order moment k) j) (let z : 0 + b ≡ b = omega arith in z)

@@ -1,6 +1,6 @@
 -- The superblocks of a new volume: they fit their bytes, are read back, and are of one volume.
-use Rattle.std.proofs.Common.{◌≡◌, ℕ, ◌+◌, ◌-◌, ◌*◌, ◌/◌, ◌^◌, ◌≤◌, ◌<◌, ◌&&◌, not, Bool, true, false, List, length, replicate, Ok, Err, refl, ap, sym, ◌∙◌, arith, if◌then◌else◌}
-use Rattle.std.specs.Prelude.{nat_lt, nat_le, ◌==◌, All, map, get_or}
+use Rattle.std.proofs.Common.{◌≡◌, ℕ, ◌+◌, ◌^◌, ◌≤◌, ◌<◌, ◌&&◌, not, Bool, true, false, length, Ok, Err, refl, ap, ◌∙◌, arith, if◌then◌else◌}
+use Rattle.std.specs.Prelude.{nat_lt, nat_le, ◌==◌, map, get_or}
 use Rattle.std.specs.List.{range_with_len}
 use Rattle.std.proofs.lemmas.Bool.{and_from, eq-eqb, le-leb, ltb-true, ne_eqb}
 use Rattle.std.proofs.lemmas.List.{length-replicate}
@@ -18,7 +18,7 @@ use Rattle.qx_geom.proofs.LevelCounts.{level-within}
 use Rattle.qx_geom.proofs.VolumeNumbers.{IsGeometry-keeps, tree-below}
 use Rattle.qx_super.specs.declared.superblock.SuperFault.TheVariants.{Geometry as Unfit}
 use Rattle.qx_super.specs.RootNode.{FitsRoot}
-use Rattle.qx_super.specs.Superblock.{Superblock, fits_device, second_place_of, superblock_of}
+use Rattle.qx_super.specs.Superblock.{fits_device, second_place_of, superblock_of}
 use Rattle.qx_super.specs.Written.{FitsSuper, superblock_written}
 use Rattle.qx_super.specs.Active.{is_same_order, is_same_volume}
 use Rattle.qx_super.proofs.WrittenSuperblocks.{length_super_bytes, superblock_of-super_bytes}
@@ -34,6 +34,7 @@ pointer-lt true x low = low refl
 pointer-lt false x low = omega arith
 
 module _ (g : Geometry) (e : IsGeometry g) where
+  -- the size of a system tree fits
   tree_size-lt : (bitmap : Bool) → tree_size g bitmap < 2 ^ 64
   tree_size-lt true = let v = IsGeometry-keeps g e in let few = v.blocks_to in omega arith
   tree_size-lt false = let v = IsGeometry-keeps g e in let few = v.inodes_to in omega arith
@@ -48,6 +49,7 @@ module _ (g : Geometry) (e : IsGeometry g) where
       pointer-lt (nat_lt j (level_count b n top)) (tree_base g which bitmap + below_level b n top + j) (λ there.
       omega (arith, ltb-true j (level_count b n top) there, level-within b n sized top (omega arith), tree-below g which bitmap e))
 
+  -- so a system tree's root node fits
   FitsRoot-system : (which : Which) (bitmap : Bool) → FitsRoot (system_root_of g which bitmap)
   unfolding system_root_of
   FitsRoot-system which bitmap =
@@ -63,11 +65,13 @@ module _ (g : Geometry) (e : IsGeometry g) where
       }
 
   module _ (order : Order) (moment : ℕ) (in_time : moment < 2 ^ 32) where
+    -- the serial fits
     area_number-lt : (which : Which) → (made_super g order moment which).serial < 2 ^ 64
     unfolding made_super
     area_number-lt First = omega arith
     area_number-lt Second = omega arith
 
+    -- all numbers fit
     pub FitsSuper-made : (which : Which) → FitsSuper (made_super g order moment which)
     unfolding made_super
     FitsSuper-made which =
@@ -91,6 +95,7 @@ module _ (g : Geometry) (e : IsGeometry g) where
           fourth = FitsRoot-empty;
         }
 
+    -- each has 512 bytes
     pub length_made_super : (which : Which) → length (made_super_bytes g order moment which) ≡ 512
     length_made_super which = length_super_bytes (made_super g order moment which) (FitsSuper-made which)
 
@@ -99,6 +104,7 @@ module _ (g : Geometry) (e : IsGeometry g) where
     unfolding made_super
     second_place_of-made which = refl
 
+    -- its geometry fits where the device has both areas
     made-fits : (which : Which) (len : ℕ) → area_place g Second + 512 ≤ len → fits_device (superblock_written (made_super g order moment which)) len ≡ true
     unfolding made_super
     made-fits which len room =
@@ -114,6 +120,7 @@ module _ (g : Geometry) (e : IsGeometry g) where
         superblock_of-super_bytes (made_super g order moment which) (FitsSuper-made which) len
         ∙ ap (λ (fits : Bool). if fits then Ok s else Err Unfit) (made-fits which len room)
 
+    -- an order is itself
     same_order : (o : Order) → is_same_order o o ≡ true
     same_order Little = refl
     same_order Big = refl
@@ -127,6 +134,7 @@ module _ (g : Geometry) (e : IsGeometry g) where
         (and_from (g.blocksize == g.blocksize) ((g.num_blocks == g.num_blocks) && (g.num_inodes == g.num_inodes)) (same g.blocksize)
         (and_from (g.num_blocks == g.num_blocks) (g.num_inodes == g.num_inodes) (same g.num_blocks) (same g.num_inodes)))
 
+    -- the second has the greater serial
     pub made-later : (made_super g order moment First).serial < (made_super g order moment Second).serial
     unfolding made_super
     made-later = omega arith

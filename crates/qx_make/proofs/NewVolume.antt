@@ -1,8 +1,7 @@
 -- The stages that make a volume: which superblocks an image has meanwhile, and what is active at the end.
-use Rattle.std.proofs.Common.{◌≡◌, ℕ, ◌+◌, ◌-◌, ◌*◌, ◌^◌, ◌≤◌, ◌<◌, ◌⊎◌, inl, inr, List, [], ◌∷◌, length, replicate, Option, Some, None, Ok, refl, ap, sym, ◌∙◌, subst, arith}
-use Rattle.std.specs.Prelude.{slice_index, slice_range, Contains}
+use Rattle.std.proofs.Common.{◌≡◌, ℕ, ◌+◌, ◌^◌, ◌≤◌, ◌<◌, ◌⊎◌, inl, inr, List, length, Some, None, Ok, refl, ap, sym, ◌∙◌, arith}
+use Rattle.std.specs.Prelude.{slice_index, slice_range}
 use Rattle.std.specs.Result.{result_ok}
-use Rattle.std.proofs.lemmas.List.{length-replicate}
 use Rattle.qx_bytes.specs.Ranges.{put_at}
 use Rattle.qx_bytes.proofs.Puts.{range_put_same}
 use Rattle.qx_outside.specs.Puts.{IsApartFrom, IsPartOf, Put}
@@ -10,13 +9,13 @@ use Rattle.qx_fields.specs.declared.order.Order.{Order}
 use Rattle.qx_geom.specs.declared.area.Which.{Which}
 use Rattle.qx_geom.specs.declared.area.Which.TheVariants.{First, Second}
 use Rattle.qx_geom.specs.declared.geometry.Geometry.{Geometry}
-use Rattle.qx_geom.specs.Layout.{IsGeometry, area_place, geometry_of, numbers_of, whole_length}
+use Rattle.qx_geom.specs.Layout.{IsGeometry, area_place, geometry_of, whole_length}
 use Rattle.qx_geom.proofs.SystemBlocks.{area_place-second}
 use Rattle.qx_geom.proofs.VolumeNumbers.{IsGeometry-of, geometry_of-numbers}
 use Rattle.qx_nodes.specs.BlockMap.{BlockMap}
 use Rattle.qx_model.specs.Tree.{Tree}
 use Rattle.qx_super.specs.declared.choice.Pick.TheVariants as picks
-use Rattle.qx_super.specs.Superblock.{Superblock, second_place_of, superblock_of}
+use Rattle.qx_super.specs.Superblock.{Superblock, superblock_of}
 use Rattle.qx_super.specs.Written.{superblock_written}
 use Rattle.qx_super.specs.Active.{active_area, active_super, second_super}
 use Rattle.qx_super.proofs.ActiveAreas.{active-first_alone, active-second_alone, active-second_later}
@@ -26,18 +25,20 @@ use Rattle.qx_make.specs.Blocks.{AreMade}
 use Rattle.qx_make.specs.Cut.{IsLeftByMaker, IsTorn, last_place, new_volume, nothing, places_of}
 use Rattle.qx_make.specs.Stages.{all_block_bytes, blocks_stage, supers_stage, with_blocks, with_supers}
 use Rattle.qx_make.specs.Superblocks.{made_super, made_super_bytes}
-use Rattle.qx_make.proofs.BytesAt.{HasSame, HasSame-put, HasSame-then, HasSame-within, HasZeros, HasZeros-put, HasZeros-same, HasZeros-within, length-put}
-use Rattle.qx_make.proofs.MadeBlocks.{HasBlocks, HasBlocks-put, HasBlocks-same, block_bytes-made, blocks-room, length_all_blocks}
+use Rattle.qx_make.proofs.BytesAt.{HasSame, HasSame-put, HasSame-then, HasZeros, HasZeros-put, HasZeros-same, HasZeros-within, length-put}
+use Rattle.qx_make.proofs.MadeBlocks.{HasBlocks, HasBlocks-put, HasBlocks-same, block_bytes-made, blocks-room}
 use Rattle.qx_make.proofs.MadeSuperblocks.{length_made_super, made-later, made-one_volume, second_place_of-made, superblock_of-made}
-use Rattle.qx_make.proofs.SuperblocksAt.{none_active, second_at, second_at-here, second_at-none, second_search-last, second_search-named, second_super-at, super_at, super_at-same, super_at-there, super_at-zeros}
+use Rattle.qx_make.proofs.SuperblocksAt.{none_active, second_at, second_at-here, second_at-none, second_search-last, second_search-named, second_super-at, super_at, super_at-same, super_at-bytes, super_at-zeros}
 use Rattle.qx_make.proofs.TornAreas.{IsApartFrom-one, IsApartFrom-two, one_of_two, torn_apart, torn_put, whole_part}
 
 module _ (g : Geometry) (order : Order) (moment size : ℕ) (is_geometry : geometry_of size g.blocksize g.num_inodes ≡ Ok g) (in_time : moment < 2 ^ 32) where
   -- ---- places
 
+  -- the device's geometry is a volume's
   pub own_geometry : IsGeometry g
   own_geometry = IsGeometry-of size g.blocksize g.num_inodes g is_geometry
 
+  -- of its length as far as it is whole
   whole : whole_length size ≡ g.len4
   whole = ap (λ (h : Geometry). h.len4) (geometry_of-numbers size g.blocksize g.num_inodes g is_geometry)
 
@@ -49,6 +50,7 @@ module _ (g : Geometry) (order : Order) (moment size : ℕ) (is_geometry : geome
   pub second-room : area_place g Second + 4096 ≤ size
   second-room = omega (arith, whole, area_place-second g own_geometry)
 
+  -- it lies behind the first
   pub second-behind : 0x3000 ≤ area_place g Second
   second-behind = omega arith
 
@@ -58,6 +60,7 @@ module _ (g : Geometry) (order : Order) (moment size : ℕ) (is_geometry : geome
   abbrev pub made : Which → Superblock
   made which = superblock_written (made_super g order moment which)
 
+  -- the new blocks, as blocks of an image with either superblock
   pub AreMade-image : (img : List ℕ) (which : Which) → length img ≡ size → HasBlocks g own_geometry order moment img → AreMade g order moment (image_blocks img (made which))
   unfolding made_super
   AreMade-image img which long has = record { order_is = refl; size = refl; count = refl; bytes = block_bytes-made g own_geometry order moment img (omega (arith, second-room)) has }
@@ -67,10 +70,12 @@ module _ (g : Geometry) (order : Order) (moment size : ℕ) (is_geometry : geome
   second_super-unnamed img long none =
       second_super-at img (area_place g Second) (second_search-last img none (omega (arith, second-room)) ∙ ap (λ (n : ℕ). Some (last_place n)) long ∙ ap (λ (p : ℕ). Some p) last_place-second)
 
+  -- or has the new superblock
   second_super-named : (img : List ℕ) → super_at img 0x2000 ≡ Some (made First) → second_super img ≡ second_at img (area_place g Second)
   second_super-named img first =
       second_super-at img (area_place g Second) (second_search-named img (made First) first ∙ ap (λ (p : ℕ). Some p) (second_place_of-made g own_geometry order moment in_time First))
 
+  -- the new second superblock counts
   counts : (img : List ℕ) → super_at img (area_place g Second) ≡ Some (made Second) → second_at img (area_place g Second) ≡ Some (made Second)
   counts img second = second_at-here img (area_place g Second) (made Second) second (second_place_of-made g own_geometry order moment in_time Second)
 
@@ -105,6 +110,7 @@ module _ (g : Geometry) (order : Order) (moment size : ℕ) (is_geometry : geome
     abbrev one : List ℕ
     one = put_at bytes 0x2000 zeros
 
+    -- with both zeroed
     abbrev cleared : List ℕ
     cleared = put_at one (area_place g Second) zeros
 
@@ -116,9 +122,11 @@ module _ (g : Geometry) (order : Order) (moment size : ℕ) (is_geometry : geome
     abbrev done : List ℕ
     done = with_supers g order moment filled
 
+    -- the length stays
     length-one : length one ≡ size
     length-one = length-put bytes zeros 0x2000 (omega (arith, second-room, second-behind)) ∙ long
 
+    -- and stays
     pub length-cleared : length cleared ≡ size
     length-cleared = length-put one zeros (area_place g Second) (omega (arith, second-room, length-one)) ∙ length-one
 
@@ -128,6 +136,7 @@ module _ (g : Geometry) (order : Order) (moment size : ℕ) (is_geometry : geome
         HasZeros-same cleared one 0x2000 0x3000 (HasSame-put one zeros (area_place g Second) 0x2000 0x3000 (omega (arith, second-room, length-one)) (inl second-behind))
         (HasZeros-within one 0x2000 (0x2000 + length zeros) 0x2000 0x3000 (omega arith) (omega arith) (HasZeros-put bytes zeros 0x2000 (omega (arith, second-room)) blank))
 
+    -- the second area is 0
     second-zeros : HasZeros cleared (area_place g Second) (area_place g Second + 512)
     second-zeros =
         HasZeros-within cleared (area_place g Second) (area_place g Second + length zeros) (area_place g Second) (area_place g Second + 512) (omega arith) (omega arith)
@@ -138,6 +147,7 @@ module _ (g : Geometry) (order : Order) (moment size : ℕ) (is_geometry : geome
     first-none img same =
         super_at-zeros img 0x2000 (HasZeros-within img 0x2000 0x3000 0x2000 (0x2000 + 512) (omega arith) (omega arith) (HasZeros-same img cleared 0x2000 0x3000 same first-zeros))
 
+    -- nor one in the second area
     second-none : (img : List ℕ) → HasSame img cleared (area_place g Second) (area_place g Second + 512) → super_at img (area_place g Second) ≡ None
     second-none img same =
         super_at-zeros img (area_place g Second) (HasZeros-same img cleared (area_place g Second) (area_place g Second + 512) same second-zeros)
@@ -147,14 +157,17 @@ module _ (g : Geometry) (order : Order) (moment size : ℕ) (is_geometry : geome
     length-filled =
         length-put cleared (all_block_bytes g order moment) 0x3000 (omega (arith, second-room, length-cleared, blocks-room g own_geometry order moment)) ∙ length-cleared
 
+    -- the first area stays 0
     first-apart : HasSame filled cleared 0x2000 0x3000
     first-apart =
         HasSame-put cleared (all_block_bytes g order moment) 0x3000 0x2000 0x3000 (omega (arith, second-room, second-behind, length-cleared)) (inl (omega arith))
 
+    -- so does the second
     second-apart : HasSame filled cleared (area_place g Second) (area_place g Second + 512)
     second-apart =
         HasSame-put cleared (all_block_bytes g order moment) 0x3000 (area_place g Second) (area_place g Second + 512) (omega (arith, second-room, second-behind, length-cleared)) (inr (blocks-room g own_geometry order moment))
 
+    -- the blocks stand in their places
     filled-blocks : HasBlocks g own_geometry order moment filled
     filled-blocks = HasBlocks-put g own_geometry order moment cleared (omega (arith, second-room, second-behind, length-cleared))
 
@@ -170,27 +183,35 @@ module _ (g : Geometry) (order : Order) (moment size : ℕ) (is_geometry : geome
 
     -- ---- the superblocks
 
+    -- the first superblock's bytes
     abbrev first_bytes : List ℕ
     first_bytes = made_super_bytes g order moment First
 
+    -- the second's
     abbrev second_bytes : List ℕ
     second_bytes = made_super_bytes g order moment Second
 
+    -- 512 bytes
     length-first : length first_bytes ≡ 512
     length-first = length_made_super g own_geometry order moment in_time First
 
+    -- and 512 more
     length-second : length second_bytes ≡ 512
     length-second = length_made_super g own_geometry order moment in_time Second
 
+    -- they are valid on a device of this length
     first-valid : (len : ℕ) → len ≡ size → superblock_of first_bytes len ≡ Ok (made First)
     first-valid len e = superblock_of-made g own_geometry order moment in_time First len (omega (arith, second-room))
 
+    -- so are those of the second
     second-valid : (len : ℕ) → len ≡ size → superblock_of second_bytes len ≡ Ok (made Second)
     second-valid len e = superblock_of-made g own_geometry order moment in_time Second len (omega (arith, second-room))
 
+    -- where each is put
     first_put : Put
     first_put = record { at = 0x2000; bytes = first_bytes }
 
+    -- and the other
     second_put : Put
     second_put = record { at = area_place g Second; bytes = second_bytes }
 
@@ -205,6 +226,7 @@ module _ (g : Geometry) (order : Order) (moment size : ℕ) (is_geometry : geome
       | inr is ↦ let at : p.put.at ≡ area_place g Second = sym (ap (λ (q : Put). q.at) is) in let low : p.put.at ≤ 0x2000 = p.from in absurd (omega (arith, second-behind))
     ]
 
+    -- one that fits the second area's place whole is the second
     second-only : (part : List ℕ) → length part ≡ 512 → IsPartOf (supers_stage g order moment filled).puts (area_place g Second) part → part ≡ second_bytes
     unfolding first_put second_put
     second-only part full p = elim (one_of_two first_put second_put p.put p.among) [
@@ -238,12 +260,15 @@ module _ (g : Geometry) (order : Order) (moment size : ℕ) (is_geometry : geome
 
     -- ---- the end
 
+    -- the length stays with the first
     length-with_first : length (put_at filled 0x2000 first_bytes) ≡ size
     length-with_first = length-put filled first_bytes 0x2000 (omega (arith, second-room, second-behind, length-first, length-filled)) ∙ length-filled
 
+    -- and with both
     pub length-done : length done ≡ size
     length-done = length-put (put_at filled 0x2000 first_bytes) second_bytes (area_place g Second) (omega (arith, second-room, length-second, length-with_first)) ∙ length-with_first
 
+    -- the blocks stand
     done-blocks : HasBlocks g own_geometry order moment done
     done-blocks =
         let start = put_at filled 0x2000 first_bytes in
@@ -259,25 +284,26 @@ module _ (g : Geometry) (order : Order) (moment size : ℕ) (is_geometry : geome
         let img = put_at xs at whole in
         let same_length : length img ≡ length xs = length-put xs whole at (omega arith) in
         let there : slice_range img at (at + length whole) ≡ whole = range_put_same xs whole at (length whole) refl (omega arith) in
-        super_at-there img at (omega arith)
-        ∙ ap (λ (n : ℕ). result_ok (superblock_of (slice_range img at (at + n)) (length img))) (sym full)
-        ∙ ap (λ (bytes : List ℕ). result_ok (superblock_of bytes (length img))) there
-        ∙ ap (λ (len : ℕ). result_ok (superblock_of whole len)) same_length
-        ∙ ap result_ok valid
+        let bytes : slice_range img at (at + 512) ≡ whole = ap (λ (n : ℕ). slice_range img at (at + n)) (sym full) ∙ there in
+        super_at-bytes img at whole (length xs) (omega arith) bytes same_length ∙ ap result_ok valid
 
+    -- the first superblock is there
     done-first : super_at done 0x2000 ≡ Some (made First)
     done-first =
         let start = put_at filled 0x2000 first_bytes in
         super_at-same done start 0x2000 (length-done ∙ sym length-with_first) (HasSame-put start second_bytes (area_place g Second) 0x2000 (0x2000 + 512) (omega (arith, second-room, length-with_first)) (inl (omega (arith, second-behind))))
         ∙ super_at-put filled first_bytes 0x2000 (made First) length-first (omega (arith, second-room, second-behind, length-filled)) (first-valid (length filled) length-filled)
 
+    -- and the second
     done-second : super_at done (area_place g Second) ≡ Some (made Second)
     done-second =
         let start = put_at filled 0x2000 first_bytes in
         super_at-put start second_bytes (area_place g Second) (made Second) length-second (omega (arith, second-room, length-with_first)) (second-valid (length start) length-with_first)
 
+    -- so the second area is active
     pub active-done : (active_area done ≡ picks.Active Second) × (active_super done ≡ Some (made Second))
     active-done = both_active done done-first done-second
 
+    -- with the new blocks
     pub AreMade-done : AreMade g order moment (image_blocks done (made Second))
     AreMade-done = AreMade-image done Second length-done done-blocks

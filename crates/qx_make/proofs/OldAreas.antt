@@ -1,12 +1,12 @@
 -- A cut while the old areas are zeroed leaves the old volume, or none.
-use Rattle.std.proofs.Common.{◌≡◌, ℕ, ◌+◌, ◌-◌, ◌*◌, ◌≤◌, ◌<◌, ◌⊎◌, inl, inr, List, [], ◌∷◌, length, min, Option, Some, None, refl, ap, sym, ◌∙◌, subst, arith}
+use Rattle.std.proofs.Common.{◌≡◌, ℕ, ◌+◌, ◌-◌, ◌≤◌, ◌⊎◌, inl, inr, List, ◌∷◌, length, min, Option, Some, None, refl, ap, sym, ◌∙◌, subst, arith}
 use Rattle.std.specs.Prelude.{Contains, option_to_list}
-use Rattle.std.proofs.lemmas.Bool.{cases_eq, cases_lt}
+use Rattle.std.proofs.lemmas.Bool.{cases_eq}
 use Rattle.qx_geom.specs.declared.area.Which.TheVariants.{First, Second}
 use Rattle.qx_model.specs.Tree.{Tree}
 use Rattle.qx_super.specs.declared.choice.Pick.TheVariants as picks
 use Rattle.qx_super.specs.Superblock.{Superblock, second_place_of}
-use Rattle.qx_super.specs.Active.{active_area, active_super, second_search, only_at, second_super, searched_place}
+use Rattle.qx_super.specs.Active.{active_area, second_search, only_at, second_super, searched_place}
 use Rattle.qx_super.proofs.ActiveAreas.{active-first_alone, active-second_alone}
 use Rattle.qx_view.proofs.ImageTrees.{some_same}
 use Rattle.qx_make.specs.Cut.{HasNoOtherSuperblock, IsLeftByMaker, IsTorn, last_place, nothing, places_of}
@@ -18,9 +18,11 @@ use Rattle.qx_make.proofs.SuperblocksAt.{active-same, none_active, none_there, s
 use Rattle.qx_make.proofs.TornAreas.{AreZeros-one, length-zeroed, torn_apart, torn_apart-super, torn_zeroed-apart, torn_zeros, zeroed-apart, zeroed-within}
 
 module _ (old : List ℕ) (size : ℕ) (t : Tree) (alone : HasNoOtherSuperblock old) where
+  -- where superblocks are looked for
   abbrev places : List ℕ
   places = places_of old size
 
+  -- where the second area is looked for if the first is none
   abbrev last : ℕ
   last = last_place (length old)
 
@@ -44,6 +46,7 @@ module _ (old : List ℕ) (size : ℕ) (t : Tree) (alone : HasNoOtherSuperblock 
   stays : (bytes : List ℕ) (area : ℕ) (img : List ℕ) → IsTorn (zero_stage bytes area) places img → (from to : ℕ) → (to ≤ area) ⊎ (area + 4096 ≤ from) → HasSame img bytes from to
   stays bytes area img torn from to beside = torn_apart (zero_stage bytes area) places img torn from to (torn_zeroed-apart bytes area from to beside)
 
+  -- so is a superblock apart from it
   stays_super : (bytes : List ℕ) (area : ℕ) (img : List ℕ) → IsTorn (zero_stage bytes area) places img → (place : ℕ) → (place + 512 ≤ area) ⊎ (area + 4096 ≤ place) → super_at img place ≡ super_at bytes place
   stays_super bytes area img torn place beside = torn_apart-super (zero_stage bytes area) places img torn place (torn_zeroed-apart bytes area place (place + 512) beside)
 
@@ -61,9 +64,11 @@ module _ (old : List ℕ) (size : ℕ) (t : Tree) (alone : HasNoOtherSuperblock 
   -- ---- where the first area is active
 
   module _ (s : Superblock) (active : IsActiveFirst old s) where
+    -- where the second area stands
     abbrev second : ℕ
     second = second_place_of s
 
+    -- the first alone is still active
     first_stays : (img : List ℕ) → length img ≡ length old → HasSame img old 0x3000 second → super_at img 0x2000 ≡ Some s → second_at img second ≡ None → IsLeftByMaker old t img
     first_stays img long same first none =
         let alone_now = active-first_alone img s first (second_super-at img second (second_search-named img s first) ∙ none) in
@@ -104,9 +109,11 @@ module _ (old : List ℕ) (size : ℕ) (t : Tree) (alone : HasNoOtherSuperblock 
   -- ---- where the second area is active
 
   module _ (s : Superblock) (active : IsActiveSecond old s) where
+    -- where it stands
     abbrev own : ℕ
     own = second_place_of s
 
+    -- the second alone is still active, where it is looked for without the first
     second_stays : (img : List ℕ) → length img ≡ length old → HasSame img old 0x3000 own → super_at img 0x2000 ≡ None → super_at img own ≡ Some s → last ≡ own → IsLeftByMaker old t img
     second_stays img long same first there here =
         let room = active.place.room in

@@ -1,6 +1,6 @@
 -- The volume that a device may have before: where its superblock stands, and what leaves its trees as they are.
-use Rattle.std.proofs.Common.{◌≡◌, ℕ, ◌+◌, ◌-◌, ◌*◌, ◌≤◌, ◌<◌, ◌⊎◌, inl, inr, Bool, true, List, ◌++◌, length, replicate, Option, Some, None, IsSome, Ok, refl, ap, sym, ◌∙◌, subst, arith, ⊎_elim, eqb-true, length-append}
-use Rattle.std.specs.Prelude.{slice_index, slice_range, ◌==◌, ◌↔◌}
+use Rattle.std.proofs.Common.{◌≡◌, ℕ, ◌+◌, ◌*◌, ◌≤◌, ◌<◌, inl, inr, true, List, ◌++◌, length, replicate, Option, Some, None, IsSome, Ok, refl, ap, sym, ◌∙◌, subst, arith, ⊎_elim, eqb-true, length-append}
+use Rattle.std.specs.Prelude.{slice_range, ◌==◌}
 use Rattle.std.proofs.lemmas.Bool.{or_cases}
 use Rattle.std.proofs.lemmas.List.{length-replicate}
 use Rattle.std.proofs.lemmas.Nat.{mul-le}
@@ -20,7 +20,7 @@ use Rattle.qx_view.specs.Reading.{IsHeld, IsTree, IsTreeOf}
 use Rattle.qx_view.proofs.ImageTrees.{image_tree_local, some_same}
 use Rattle.qx_make.specs.Cut.{HasNoOtherSuperblock, IsLeftByMaker, old_volume}
 use Rattle.qx_make.proofs.BytesAt.{HasSame, byte_of_more, range_same}
-use Rattle.qx_make.proofs.SuperblocksAt.{second_at, second_at-is, second_search-named, second_super-at, second_super-unsearched, super_at, super_at-valid, super_at-wrong}
+use Rattle.qx_make.proofs.SuperblocksAt.{second_at-is, second_search-named, second_super-at, second_super-unsearched, super_at, super_at-valid, super_at-wrong}
 
 -- ---- places
 
@@ -35,10 +35,12 @@ pub record IsPlace (place len : ℕ) : Type 0 where
 parts_at : (count b n m : ℕ) → n ≡ m * 512 → (b == n) ≡ true → (k : ℕ) × (count * b ≡ k * 512)
 parts_at count b n m e t = let same : b ≡ m * 512 = eqb-true b n t ∙ e in (count * m, ap (λ (x : ℕ). count * x) same ∙ sym (mul_assoc count m 512))
 
+-- so have any number of blocks
 blocks-parts : (count b : ℕ) → is_block_size b ≡ true → (k : ℕ) × (count * b ≡ k * 512)
 blocks-parts count b t =
     ⊎_elim (λ t'. ⊎_elim (λ t''. ⊎_elim (parts_at count b 512 1 refl) (parts_at count b 1024 2 refl) (or_cases _ _ t'')) (parts_at count b 2048 4 refl) (or_cases _ _ t')) (parts_at count b 4096 8 refl) (or_cases _ _ t)
 
+-- what a valid superblock says is such a place
 pub IsPlace-valid : (img : List ℕ) (place : ℕ) (s : Superblock) → super_at img place ≡ Some s → IsPlace (second_place_of s) (length img)
 IsPlace-valid img place s e =
     let bytes = slice_range img place (place + 512) in
@@ -52,6 +54,7 @@ IsPlace-valid img place s e =
 
 -- ---- the active one
 
+-- what is there
 there : (o : Option Superblock) → IsSome o → (s : Superblock) × (o ≡ Some s)
 there None e = absurd (cc e)
 there (Some s) e = (s, refl)
@@ -64,6 +67,7 @@ pub record IsActiveFirst (img : List ℕ) (s : Superblock) : Type 0 where
   pub search : second_search img ≡ Some (second_place_of s)
   pub place : IsPlace (second_place_of s) (length img)
 
+-- it has one, where it is active
 pub IsActiveFirst-is : (img : List ℕ) → active_area img ≡ picks.Active First → (s : Superblock) × IsActiveFirst img s
 IsActiveFirst-is img e =
     let (s, is) = there (active_super img) (IsSome-active_super img First e) in
@@ -78,6 +82,7 @@ pub record IsActiveSecond (img : List ℕ) (s : Superblock) : Type 0 where
   pub search : second_search img ≡ Some (second_place_of s)
   pub place : IsPlace (second_place_of s) (length img)
 
+-- it has one, where it is active
 pub IsActiveSecond-is : (img : List ℕ) → active_area img ≡ picks.Active Second → (s : Superblock) × IsActiveSecond img s
 IsActiveSecond-is img e =
     let (s, is) = there (active_super img) (IsSome-active_super img Second e) in

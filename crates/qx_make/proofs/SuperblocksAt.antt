@@ -1,9 +1,8 @@
 -- The superblock at a place of an image, and how those at the places that are looked at decide which area is active.
-use Rattle.std.proofs.Common.{◌≡◌, ℕ, ◌+◌, ◌-◌, ◌≤◌, ◌<◌, ◌⊎◌, inl, inr, Bool, true, false, List, length, replicate, Option, Some, None, Result, Ok, Err, refl, ap, sym, ◌∙◌, arith, if◌then◌else◌}
-use Rattle.std.specs.Prelude.{option_and_then, slice_range, nat_le, nat_lt, ◌==◌}
+use Rattle.std.proofs.Common.{◌≡◌, replicate, ℕ, ◌+◌, ◌≤◌, ◌<◌, inl, inr, Bool, true, false, List, length, Option, Some, None, Result, Ok, Err, refl, ap, sym, ◌∙◌, arith, if◌then◌else◌}
+use Rattle.std.specs.Prelude.{option_and_then, slice_range, nat_lt, ◌==◌}
 use Rattle.std.specs.Result.{result_ok}
 use Rattle.std.proofs.lemmas.Bool.{cases_lt, lt-leb, le-leb, eqb-true, eq-eqb}
-use Rattle.qx_geom.specs.Layout.{whole_length}
 use Rattle.qx_geom.specs.declared.area.Which.TheVariants.{First, Second}
 use Rattle.qx_super.specs.declared.choice.Pick.TheVariants as picks
 use Rattle.qx_super.specs.Superblock.{Superblock, has_right_checksum, second_place_of, superblock_of}
@@ -24,10 +23,12 @@ second_at img place = only_at place (super_at img place)
 
 -- ---- at one place
 
+-- what stands there decides, where the image has it
 pub super_at-there : (img : List ℕ) (place : ℕ) → place + 512 ≤ length img → super_at img place ≡ result_ok (superblock_of (slice_range img place (place + 512)) (length img))
 super_at-there img place room =
     ap (λ (b : Bool). valid_area (length img) (if b then Some (slice_range img place (place + 512)) else None)) (le-leb (place + 512) (length img) room)
 
+-- past the end there is none
 pub super_at-past : (img : List ℕ) (place : ℕ) → length img < place + 512 → super_at img place ≡ None
 super_at-past img place past =
     ap (λ (b : Bool). valid_area (length img) (if b then Some (slice_range img place (place + 512)) else None)) (lt-leb (place + 512) (length img) past)
@@ -39,10 +40,15 @@ super_at-none img place none = elim (cases_lt (length img) (place + 512)) [
   | inr room ↦ super_at-there img place room ∙ none room
 ]
 
+-- images with these bytes there have the one that they are
+pub super_at-bytes : (img : List ℕ) (place : ℕ) (bytes : List ℕ) (len : ℕ) → place + 512 ≤ length img → slice_range img place (place + 512) ≡ bytes → length img ≡ len → super_at img place ≡ result_ok (superblock_of bytes len)
+super_at-bytes img place bytes len room are long =
+    super_at-there img place room ∙ ap (λ (xs : List ℕ). result_ok (superblock_of xs (length img))) are ∙ ap (λ (n : ℕ). result_ok (superblock_of bytes n)) long
+
 -- bytes 0 are none
 pub super_at-zeros : (img : List ℕ) (place : ℕ) → HasZeros img place (place + 512) → super_at img place ≡ None
 super_at-zeros img place zeros =
-    super_at-none img place (λ room. ap (λ (bytes : List ℕ). result_ok (superblock_of bytes (length img))) (range_zeros img place 512 room zeros) ∙ ap result_ok (superblock_of-zeros (length img)))
+    super_at-none img place (λ room. sym (super_at-there img place room) ∙ super_at-bytes img place (replicate 512 0) (length img) room (range_zeros img place 512 room zeros) refl ∙ ap result_ok (superblock_of-zeros (length img)))
 
 -- bytes that are no superblock are none
 pub super_at-invalid : (img : List ℕ) (place : ℕ) → place + 512 ≤ length img → ((s : Superblock) → superblock_of (slice_range img place (place + 512)) (length img) ≡ Ok s → ⊥) → super_at img place ≡ None
@@ -61,9 +67,7 @@ pub super_at-same : (img other : List ℕ) (place : ℕ) → length img ≡ leng
 super_at-same img other place long same = elim (cases_lt (length img) (place + 512)) [
   | inl past ↦ super_at-past img place past ∙ sym (super_at-past other place (omega arith))
   | inr room ↦
-      super_at-there img place room
-      ∙ ap (λ (bytes : List ℕ). result_ok (superblock_of bytes (length img))) (range_same img other place (place + 512) room (omega arith) same)
-      ∙ ap (λ (len : ℕ). result_ok (superblock_of (slice_range other place (place + 512)) len)) long
+      super_at-bytes img place (slice_range other place (place + 512)) (length other) room (range_same img other place (place + 512) room (omega arith) same) long
       ∙ sym (super_at-there other place (omega arith))
 ]
 
@@ -88,6 +92,7 @@ only_at-is place (Some x) s e = by_place (second_place_of x == place) refl e
     by_place true here e = let same : x ≡ s = cc e in (e, ap (λ (y : Superblock). second_place_of y) (sym same) ∙ eqb-true (second_place_of x) place here)
     by_place false here e = absurd (cc e)
 
+-- of an image
 pub second_at-is : (img : List ℕ) (place : ℕ) (s : Superblock) → second_at img place ≡ Some s → (super_at img place ≡ Some s) × (second_place_of s ≡ place)
 second_at-is img place s e = only_at-is place (super_at img place) s e
 
@@ -96,6 +101,7 @@ pub second_at-here : (img : List ℕ) (place : ℕ) (s : Superblock) → super_a
 second_at-here img place s there says =
     ap (λ (o : Option Superblock). only_at place o) there ∙ ap (λ (b : Bool). if b then Some s else None) (eq-eqb (second_place_of s) place says)
 
+-- where there is none, none counts
 pub second_at-none : (img : List ℕ) (place : ℕ) → super_at img place ≡ None → second_at img place ≡ None
 second_at-none img place none = ap (λ (o : Option Superblock). only_at place o) none
 
@@ -105,6 +111,7 @@ second_at-none img place none = ap (λ (o : Option Superblock). only_at place o)
 pub second_super-at : (img : List ℕ) (place : ℕ) → second_search img ≡ Some place → second_super img ≡ second_at img place
 second_super-at img place e = ap (λ (search : Option ℕ). option_and_then (λ p. second_at img p) search) e
 
+-- where it is looked for nowhere there is none
 pub second_super-unsearched : (img : List ℕ) → second_search img ≡ None → second_super img ≡ None
 second_super-unsearched img e = ap (λ (search : Option ℕ). option_and_then (λ p. second_at img p) search) e
 
@@ -117,6 +124,7 @@ pub second_search-last : (img : List ℕ) → super_at img 0x2000 ≡ None → 4
 second_search-last img e long =
     ap (λ (first : Option Superblock). searched_place (length img) first) e ∙ ap (λ (b : Bool). if b then Some (last_place (length img)) else None) (le-leb 4096 (length img) long)
 
+-- on a short device nowhere
 pub second_search-none : (img : List ℕ) → super_at img 0x2000 ≡ None → length img < 4096 → second_search img ≡ None
 second_search-none img e short =
     ap (λ (first : Option Superblock). searched_place (length img) first) e ∙ ap (λ (b : Bool). if b then Some (last_place (length img)) else None) (lt-leb 4096 (length img) short)
@@ -136,6 +144,7 @@ both_picked true true e = absurd (cc e)
 both_picked true false e = absurd (cc e)
 both_picked false later e = absurd (cc e)
 
+-- nothing is picked only where neither is there
 none_picked : (a b : Option Superblock) → pick_of a b ≡ picks.None → (a ≡ None) × (b ≡ None)
 none_picked None None e = (refl, refl)
 none_picked (Some a) None e = absurd (cc e)

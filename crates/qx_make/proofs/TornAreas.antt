@@ -1,5 +1,5 @@
 -- What an image has after a cut during a stage: where a stage puts bytes 0 and where it puts nothing.
-use Rattle.std.proofs.Common.{◌≡◌, ℕ, zero, suc, Ok, Some, ◌+◌, ◌-◌, ◌≤◌, ◌<◌, ◌⊎◌, inl, inr, List, [], ◌∷◌, length, min, replicate, Option, None, refl, ap, sym, ◌∙◌, subst, arith}
+use Rattle.std.proofs.Common.{◌≡◌, ℕ, zero, suc, Ok, Some, ◌+◌, ◌-◌, ◌≤◌, ◌<◌, ◌⊎◌, inl, inr, List, [], ◌∷◌, length, min, replicate, None, refl, ap, sym, ◌∙◌, subst, arith}
 use Rattle.std.specs.Prelude.{slice_index, slice_range, Contains}
 use Rattle.std.specs.Result.{result_ok}
 use Rattle.std.proofs.lemmas.Bool.{cases_lt}
@@ -13,7 +13,7 @@ use Rattle.qx_super.proofs.ActiveAreas.{superblock_of-zeros}
 use Rattle.qx_make.specs.Cut.{IsTorn, MayBeLeft, kept, put, invalid}
 use Rattle.qx_make.specs.Stages.{Stage, after_stage, area_zeros, zero_stage}
 use Rattle.qx_make.proofs.BytesAt.{HasSame, HasZeros, byte_of_range, byte_of_zeros, length-range}
-use Rattle.qx_make.proofs.SuperblocksAt.{super_at, super_at-invalid, super_at-past, super_at-same, super_at-there}
+use Rattle.qx_make.proofs.SuperblocksAt.{super_at, super_at-bytes, super_at-invalid, super_at-past, super_at-same, super_at-there}
 
 -- ---- puts
 
@@ -22,11 +22,13 @@ pub only_one : {A : Type 0} (a x : A) → Contains (a ∷ []) x → a ≡ x
 only_one a x (zero, within, is) = is
 only_one a x (suc k, within, is) = absurd (omega arith)
 
+-- each of two is one of them
 pub one_of_two : {A : Type 0} (a b x : A) → Contains (a ∷ b ∷ []) x → (a ≡ x) ⊎ (b ≡ x)
 one_of_two a b x (zero, within, is) = inl is
 one_of_two a b x (suc zero, within, is) = inr is
 one_of_two a b x (suc (suc k), within, is) = absurd (omega arith)
 
+-- with no puts each byte is apart
 pub IsApartFrom-none : (k : ℕ) → IsApartFrom [] k
 IsApartFrom-none k p (i, within, is) from to = absurd (omega arith)
 
@@ -38,6 +40,7 @@ IsApartFrom-one a k beside p among from to = subst (λ (q : Put). q.at ≤ k →
     outside (inl before) low high = omega arith
     outside (inr behind) low high = omega arith
 
+-- a byte that is beside both of two puts
 pub IsApartFrom-two : (a b : Put) (k : ℕ) → (k < a.at) ⊎ (a.at + length a.bytes ≤ k) → (k < b.at) ⊎ (b.at + length b.bytes ≤ k) → IsApartFrom (a ∷ b ∷ []) k
 IsApartFrom-two a b k beside_a beside_b p among from to = elim (one_of_two a b p among) [
   | inl is ↦ IsApartFrom-one a k beside_a p (0, omega arith, is) from to
@@ -56,6 +59,7 @@ whole_part at from bytes whole here long as_long same =
 pub record AreZeros (puts : List Put) : Type 0 where
   pub each : (p : Put) → Contains puts p → (n : ℕ) × (p.bytes ≡ replicate n 0)
 
+-- bytes 0 at one place
 pub AreZeros-one : (at n : ℕ) → AreZeros (record { at = at; bytes = replicate n 0 } ∷ [])
 AreZeros-one at n = record { each = λ p among. (n, sym (ap (λ (q : Put). q.bytes) (only_one (record { at = at; bytes = replicate n 0 }) p among))) }
 
@@ -88,6 +92,14 @@ module _ (stage : Stage) (places : List ℕ) (img : List ℕ) (torn : IsTorn sta
   pub torn_apart-super : (place : ℕ) → ((k : ℕ) → place ≤ k → k < place + 512 → IsApartFrom stage.puts k) → super_at img place ≡ super_at stage.kept place
   torn_apart-super place apart = super_at-same img stage.kept place torn.size (torn_apart place (place + 512) apart)
 
+  -- so is one of which the bytes are as they were kept
+  kept_super : (place : ℕ) → place + 512 ≤ length img → slice_range img place (place + 512) ≡ slice_range stage.kept place (place + 512) → super_at img place ≡ super_at stage.kept place
+  kept_super place room is = super_at-bytes img place (slice_range stage.kept place (place + 512)) (length stage.kept) room is torn.size ∙ sym (super_at-there stage.kept place (omega (arith, torn.size)))
+
+  -- a superblock's bytes are 512
+  length-super : (place : ℕ) → place + 512 ≤ length img → length (slice_range img place (place + 512)) ≡ 512
+  length-super place room = omega (arith, length-range img place (place + 512) room)
+
   -- where bytes 0 are put, a place has the superblock that was kept, or none
   pub torn_zeros : (place : ℕ) → AreZeros stage.puts → Contains places place → (super_at img place ≡ super_at stage.kept place) ⊎ (super_at img place ≡ None)
   torn_zeros place zeros among = elim (cases_lt (length img) (place + 512)) [
@@ -96,14 +108,10 @@ module _ (stage : Stage) (places : List ℕ) (img : List ℕ) (torn : IsTorn sta
   ]
     where
       by_bytes : place + 512 ≤ length img → MayBeLeft stage (length img) place (slice_range img place (place + 512)) → (super_at img place ≡ super_at stage.kept place) ⊎ (super_at img place ≡ None)
-      by_bytes room (kept is) =
-          inl (super_at-there img place room ∙ ap (λ (bytes : List ℕ). result_ok (superblock_of bytes (length img))) is
-          ∙ ap (λ (len : ℕ). result_ok (superblock_of (slice_range stage.kept place (place + 512)) len)) torn.size
-          ∙ sym (super_at-there stage.kept place (omega (arith, torn.size))))
+      by_bytes room (kept is) = inl (kept_super place room is)
       by_bytes room (put part) =
-          let long : length (slice_range img place (place + 512)) ≡ 512 = length-range img place (place + 512) room ∙ (let e : place + 512 - place ≡ 512 = omega arith in e) in
-          let all : slice_range img place (place + 512) ≡ replicate 512 0 = part_of_zeros stage.puts place (slice_range img place (place + 512)) zeros part ∙ ap (λ (n : ℕ). replicate n 0) long in
-          inr (super_at-there img place room ∙ ap (λ (bytes : List ℕ). result_ok (superblock_of bytes (length img))) all ∙ ap result_ok (superblock_of-zeros (length img)))
+          let all : slice_range img place (place + 512) ≡ replicate 512 0 = part_of_zeros stage.puts place (slice_range img place (place + 512)) zeros part ∙ ap (λ (n : ℕ). replicate n 0) (length-super place room) in
+          inr (super_at-bytes img place (replicate 512 0) (length img) room all refl ∙ ap result_ok (superblock_of-zeros (length img)))
       by_bytes room (invalid none) = inr (super_at-invalid img place room none)
 
   -- where one part of a put fits a place whole, it has the superblock of that part, or none, if none was kept
@@ -113,13 +121,8 @@ module _ (stage : Stage) (places : List ℕ) (img : List ℕ) (torn : IsTorn sta
   torn_put place whole s among room none only valid = by_bytes (torn.stands place among room)
     where
       by_bytes : MayBeLeft stage (length img) place (slice_range img place (place + 512)) → (super_at img place ≡ None) ⊎ (super_at img place ≡ Some s)
-      by_bytes (kept is) =
-          inl (super_at-there img place room ∙ ap (λ (bytes : List ℕ). result_ok (superblock_of bytes (length img))) is
-          ∙ ap (λ (len : ℕ). result_ok (superblock_of (slice_range stage.kept place (place + 512)) len)) torn.size
-          ∙ sym (super_at-there stage.kept place (omega (arith, torn.size))) ∙ none)
-      by_bytes (put part) =
-          let long : length (slice_range img place (place + 512)) ≡ 512 = length-range img place (place + 512) room ∙ (let e : place + 512 - place ≡ 512 = omega arith in e) in
-          inr (super_at-there img place room ∙ ap (λ (bytes : List ℕ). result_ok (superblock_of bytes (length img))) (only (slice_range img place (place + 512)) long part) ∙ ap result_ok valid)
+      by_bytes (kept is) = inl (kept_super place room is ∙ none)
+      by_bytes (put part) = inr (super_at-bytes img place whole (length img) room (only (slice_range img place (place + 512)) (length-super place room) part) refl ∙ ap result_ok valid)
       by_bytes (invalid refused) = inl (super_at-invalid img place room refused)
 
 -- where nothing is put all is as it was kept
@@ -129,9 +132,11 @@ torn_rest bytes places img torn = ext_get_or 0 img bytes torn.size (λ k within.
 -- ---- an area that was zeroed
 
 module _ (bytes : List ℕ) (place : ℕ) where
+  -- the zeros that are put
   abbrev zeros : List ℕ
   zeros = replicate (min 4096 (length bytes - place)) 0
 
+  -- how many they are
   count : length zeros ≡ min 4096 (length bytes - place)
   count = length-replicate (min 4096 (length bytes - place)) 0
 
@@ -141,6 +146,7 @@ module _ (bytes : List ℕ) (place : ℕ) where
       let none : min 4096 (length bytes - place) ≡ 0 = omega arith in
       ap (λ (n : ℕ). put_at bytes place (replicate n 0)) none ∙ put_none bytes place
 
+  -- the length stays
   pub length-zeroed : length (after_stage (zero_stage bytes place)) ≡ length bytes
   length-zeroed = elim (cases_lt place (length bytes)) [
     | inl there ↦ length_put bytes zeros place (length zeros) refl (omega (arith, count))

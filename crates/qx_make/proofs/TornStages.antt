@@ -1,12 +1,9 @@
 -- Whatever stage a cut comes in, an image gives no volume, the old one or the new one; and the new one is there at the end.
-use Rattle.std.proofs.Common.{◌≡◌, ℕ, zero, suc, ◌+◌, ◌-◌, ◌^◌, ◌≤◌, ◌<◌, ◌⊎◌, inl, inr, List, [], ◌∷◌, ◌++◌, length, replicate, Option, Some, None, Ok, refl, ap, sym, ◌∙◌, subst, arith}
-use Rattle.std.specs.Prelude.{slice_index, slice_range, Contains}
+use Rattle.std.proofs.Common.{◌≡◌, ℕ, zero, suc, ◌+◌, ◌^◌, ◌<◌, inl, inr, List, [], ◌∷◌, length, replicate, Option, Some, None, Ok, refl, ap, sym, ◌∙◌, subst, arith}
+use Rattle.std.specs.Prelude.{Contains}
 use Rattle.std.proofs.lemmas.List.{length-replicate}
 use Rattle.std.proofs.lemmas.List.Elements.{Contains-append_cases}
-use Rattle.qx_outside.specs.Images.{IsImage}
 use Rattle.qx_outside.specs.Trail.{History, resized}
-use Rattle.qx_outside.specs.Puts.{IsPutting}
-use Rattle.qx_outside.proofs.PuttingMoments.{IsPartOf-asked, image_putting-apart, image_putting-size}
 use Rattle.qx_fields.specs.declared.order.Order.{Order}
 use Rattle.qx_geom.specs.declared.area.Which.{Which}
 use Rattle.qx_geom.specs.declared.area.Which.TheVariants.{First, Second}
@@ -19,12 +16,11 @@ use Rattle.qx_super.specs.declared.choice.Pick.TheVariants as picks
 use Rattle.qx_super.specs.Superblock.{Superblock, second_place_of}
 use Rattle.qx_super.specs.Written.{superblock_written}
 use Rattle.qx_super.specs.Active.{active_area, active_super, only_at}
-use Rattle.qx_view.specs.FalseSuperblocks.{HasNoFalseSuperblock, MayStand}
 use Rattle.qx_view.specs.Images.{image_blocks, main_roots}
 use Rattle.qx_view.specs.Reading.{IsTreeOf}
 use Rattle.qx_make.specs.Blocks.{AreMade}
-use Rattle.qx_make.specs.Cut.{HasNoOtherSuperblock, IsLeftByMaker, IsTorn, LeavesByMaker, MayBeLeft, last_place, new_volume, nothing, places_of}
-use Rattle.qx_make.specs.Stages.{IsInStage, Stage, after_stage, areas_stage, blocks_stage, clear_stage, make_stages, new_stages, old_places, places_by, rest_stage, supers_stage, with_areas, with_blocks, with_supers, zero_stage, zero_stages, zeroed}
+use Rattle.qx_make.specs.Cut.{HasNoOtherSuperblock, IsLeftByMaker, IsTorn, LeavesByMaker, last_place, new_volume, nothing, places_of}
+use Rattle.qx_make.specs.Stages.{IsInStage, Stage, after_stage, areas_stage, make_stages, new_stages, old_places, places_by, rest_stage, with_areas, with_blocks, with_supers, zero_stage, zero_stages, zeroed}
 use Rattle.qx_make.specs.Superblocks.{made_super}
 use Rattle.qx_make.proofs.BytesAt.{HasSame, HasZeros-same, HasZeros-within, byte_of_resized, byte_of_zeros, length-resized}
 use Rattle.qx_make.proofs.ClearedAreas.{IsCleared, IsCleared-first, IsCleared-none, IsCleared-second, nothing_last}
@@ -65,6 +61,7 @@ module _ (old : List ℕ) (size : ℕ) (t : Tree) (agree : active_area old ≡ p
     cleared : IsCleared old (zeroed old places)
     left : (stage : Stage) → Contains (zero_stages old places) stage → (img : List ℕ) → IsTorn stage (places_of old size) img → IsLeftByMaker old t img
 
+  -- where the first area was active
   zeroed-first : active_area old ≡ picks.Active First → AreZeroed (old_places old)
   zeroed-first e =
       let (s, active) = IsActiveFirst-is old e in
@@ -79,6 +76,7 @@ module _ (old : List ℕ) (size : ℕ) (t : Tree) (agree : active_area old ≡ p
         ];
       })
 
+  -- where the second was
   zeroed-second : active_area old ≡ picks.Active Second → AreZeroed (old_places old)
   zeroed-second e =
       let (s, active) = IsActiveSecond-is old e in
@@ -93,6 +91,7 @@ module _ (old : List ℕ) (size : ℕ) (t : Tree) (agree : active_area old ≡ p
         ];
       })
 
+  -- where none was
   zeroed-none : active_area old ≡ picks.None → AreZeroed (old_places old)
   zeroed-none e =
       let places : old_places old ≡ 0x2000 ∷ [] = ap (λ (p : Pick). places_by p (active_super old)) e in
