@@ -6,6 +6,7 @@ pub mod SuperblocksAt
 pub mod TornAreas
 pub mod MadeBlocks
 pub mod MadeSuperblocks
+pub mod NewSuperblocks
 pub mod NewVolume
 pub mod OldVolume
 pub mod ClearedAreas

@@ -1,5 +1,5 @@
 -- The stages that make a volume: which superblocks an image has meanwhile, and what is active at the end.
-use Rattle.std.proofs.Common.{◌≡◌, ℕ, ◌+◌, ◌^◌, ◌≤◌, ◌<◌, ◌⊎◌, inl, inr, List, length, Some, None, Ok, refl, ap, sym, ◌∙◌, arith}
+use Rattle.std.proofs.Common.{◌≡◌, ℕ, ◌+◌, ◌^◌, ◌≤◌, ◌<◌, inl, inr, List, length, Some, None, Ok, refl, ap, sym, ◌∙◌, arith}
 use Rattle.std.specs.Prelude.{slice_index, slice_range}
 use Rattle.std.specs.Result.{result_ok}
 use Rattle.qx_bytes.specs.Ranges.{put_at}
@@ -9,99 +9,42 @@ use Rattle.qx_fields.specs.declared.order.Order.{Order}
 use Rattle.qx_geom.specs.declared.area.Which.{Which}
 use Rattle.qx_geom.specs.declared.area.Which.TheVariants.{First, Second}
 use Rattle.qx_geom.specs.declared.geometry.Geometry.{Geometry}
-use Rattle.qx_geom.specs.Layout.{IsGeometry, area_place, geometry_of, whole_length}
-use Rattle.qx_geom.proofs.SystemBlocks.{area_place-second}
-use Rattle.qx_geom.proofs.VolumeNumbers.{IsGeometry-of, geometry_of-numbers}
+use Rattle.qx_geom.specs.Layout.{IsGeometry, area_place, geometry_of}
 use Rattle.qx_nodes.specs.BlockMap.{BlockMap}
 use Rattle.qx_model.specs.Tree.{Tree}
 use Rattle.qx_super.specs.declared.choice.Pick.TheVariants as picks
 use Rattle.qx_super.specs.Superblock.{Superblock, superblock_of}
 use Rattle.qx_super.specs.Written.{superblock_written}
-use Rattle.qx_super.specs.Active.{active_area, active_super, second_super}
-use Rattle.qx_super.proofs.ActiveAreas.{active-first_alone, active-second_alone, active-second_later}
+use Rattle.qx_super.specs.Active.{active_area, active_super}
 use Rattle.qx_view.specs.Images.{image_blocks, main_roots}
 use Rattle.qx_view.specs.Reading.{IsTreeOf}
 use Rattle.qx_make.specs.Blocks.{AreMade}
-use Rattle.qx_make.specs.Cut.{IsLeftByMaker, IsTorn, last_place, new_volume, nothing, places_of}
+use Rattle.qx_make.specs.Cut.{IsLeftByMaker, IsTorn, places_of}
 use Rattle.qx_make.specs.Stages.{all_block_bytes, blocks_stage, supers_stage, with_blocks, with_supers}
 use Rattle.qx_make.specs.Superblocks.{made_super, made_super_bytes}
 use Rattle.qx_make.proofs.BytesAt.{HasSame, HasSame-put, HasSame-then, HasZeros, HasZeros-put, HasZeros-same, HasZeros-within, length-put}
-use Rattle.qx_make.proofs.MadeBlocks.{HasBlocks, HasBlocks-put, HasBlocks-same, block_bytes-made, blocks-room}
-use Rattle.qx_make.proofs.MadeSuperblocks.{length_made_super, made-later, made-one_volume, second_place_of-made, superblock_of-made}
-use Rattle.qx_make.proofs.SuperblocksAt.{none_active, second_at, second_at-here, second_at-none, second_search-last, second_search-named, second_super-at, super_at, super_at-same, super_at-bytes, super_at-zeros}
+use Rattle.qx_make.proofs.MadeBlocks.{HasBlocks, HasBlocks-put, HasBlocks-same, blocks-room}
+use Rattle.qx_make.proofs.MadeSuperblocks.{length_made_super, superblock_of-made}
+use Rattle.qx_make.proofs.NewSuperblocks.{AreMade-image, both_active, last_place-second, left_new, neither_active, own_geometry, second-behind, second-room}
+use Rattle.qx_make.proofs.SuperblocksAt.{second_at-none, super_at, super_at-same, super_at-bytes, super_at-zeros}
 use Rattle.qx_make.proofs.TornAreas.{IsApartFrom-one, IsApartFrom-two, one_of_two, torn_apart, torn_put, whole_part}
 
 module _ (g : Geometry) (order : Order) (moment size : ℕ) (is_geometry : geometry_of size g.blocksize g.num_inodes ≡ Ok g) (in_time : moment < 2 ^ 32) where
-  -- ---- places
-
   -- the device's geometry is a volume's
-  pub own_geometry : IsGeometry g
-  own_geometry = IsGeometry-of size g.blocksize g.num_inodes g is_geometry
+  abbrev own : IsGeometry g
+  own = own_geometry g order moment size is_geometry in_time
 
-  -- of its length as far as it is whole
-  whole : whole_length size ≡ g.len4
-  whole = ap (λ (h : Geometry). h.len4) (geometry_of-numbers size g.blocksize g.num_inodes g is_geometry)
+  -- the device has the second area
+  area-room : area_place g Second + 4096 ≤ size
+  area-room = second-room g order moment size is_geometry in_time
 
-  -- the second area is where it is looked for if the first is none
-  pub last_place-second : last_place size ≡ area_place g Second
-  last_place-second = omega (arith, whole, area_place-second g own_geometry)
-
-  -- it lies behind the first, and within the device
-  pub second-room : area_place g Second + 4096 ≤ size
-  second-room = omega (arith, whole, area_place-second g own_geometry)
-
-  -- it lies behind the first
-  pub second-behind : 0x3000 ≤ area_place g Second
-  second-behind = omega arith
-
-  -- ---- what decides
+  -- behind the first
+  area-behind : 0x3000 ≤ area_place g Second
+  area-behind = second-behind g order moment size is_geometry in_time
 
   -- the superblock of an area
-  abbrev pub made : Which → Superblock
+  abbrev made : Which → Superblock
   made which = superblock_written (made_super g order moment which)
-
-  -- the new blocks, as blocks of an image with either superblock
-  pub AreMade-image : (img : List ℕ) (which : Which) → length img ≡ size → HasBlocks g own_geometry order moment img → AreMade g order moment (image_blocks img (made which))
-  unfolding made_super
-  AreMade-image img which long has = record { order_is = refl; size = refl; count = refl; bytes = block_bytes-made g own_geometry order moment img (omega (arith, second-room)) has }
-
-  -- the second superblock is that at its place, whatever the first area has
-  second_super-unnamed : (img : List ℕ) → length img ≡ size → super_at img 0x2000 ≡ None → second_super img ≡ second_at img (area_place g Second)
-  second_super-unnamed img long none =
-      second_super-at img (area_place g Second) (second_search-last img none (omega (arith, second-room)) ∙ ap (λ (n : ℕ). Some (last_place n)) long ∙ ap (λ (p : ℕ). Some p) last_place-second)
-
-  -- or has the new superblock
-  second_super-named : (img : List ℕ) → super_at img 0x2000 ≡ Some (made First) → second_super img ≡ second_at img (area_place g Second)
-  second_super-named img first =
-      second_super-at img (area_place g Second) (second_search-named img (made First) first ∙ ap (λ (p : ℕ). Some p) (second_place_of-made g own_geometry order moment in_time First))
-
-  -- the new second superblock counts
-  counts : (img : List ℕ) → super_at img (area_place g Second) ≡ Some (made Second) → second_at img (area_place g Second) ≡ Some (made Second)
-  counts img second = second_at-here img (area_place g Second) (made Second) second (second_place_of-made g own_geometry order moment in_time Second)
-
-  -- with neither no area is active
-  pub neither_active : (img : List ℕ) → length img ≡ size → super_at img 0x2000 ≡ None → second_at img (area_place g Second) ≡ None → active_area img ≡ picks.None
-  neither_active img long first second =
-      none_active img first (λ enough. ap (λ (n : ℕ). second_at img (last_place n)) long ∙ ap (λ (p : ℕ). second_at img p) last_place-second ∙ second)
-
-  -- with both the second is
-  pub both_active : (img : List ℕ) → super_at img 0x2000 ≡ Some (made First) → super_at img (area_place g Second) ≡ Some (made Second) → (active_area img ≡ picks.Active Second) × (active_super img ≡ Some (made Second))
-  both_active img first second =
-      active-second_later img (made First) (made Second) first (second_super-named img first ∙ counts img second) (made-one_volume g own_geometry order moment in_time) (made-later g own_geometry order moment in_time)
-
-  module _ (old : List ℕ) (t : Tree) (new_tree : (m : BlockMap) (which : Which) → AreMade g order moment m → IsTreeOf m (main_roots (made which)) t) where
-    -- an image with the new blocks gives no volume or the new one, with any of the two superblocks
-    left_new : (img : List ℕ) → length img ≡ size → HasBlocks g own_geometry order moment img → (super_at img 0x2000 ≡ None) ⊎ (super_at img 0x2000 ≡ Some (made First))
-        → (super_at img (area_place g Second) ≡ None) ⊎ (super_at img (area_place g Second) ≡ Some (made Second)) → IsLeftByMaker old t img
-    left_new img long has (inl first) (inl second) = nothing (neither_active img long first (second_at-none img (area_place g Second) second))
-    left_new img long has (inl first) (inr second) =
-        let active = active-second_alone img (made Second) first (second_super-unnamed img long first ∙ counts img second) in
-        new_volume (made Second, active.1, new_tree (image_blocks img (made Second)) Second (AreMade-image img Second long has))
-    left_new img long has (inr first) (inl second) =
-        let active = active-first_alone img (made First) first (second_super-named img first ∙ second_at-none img (area_place g Second) second) in
-        new_volume (made First, active.1, new_tree (image_blocks img (made First)) First (AreMade-image img First long has))
-    left_new img long has (inr first) (inr second) =
-        new_volume (made Second, (both_active img first second).1, new_tree (image_blocks img (made Second)) Second (AreMade-image img Second long has))
 
   -- ---- the bytes after each stage
 
@@ -124,23 +67,23 @@ module _ (g : Geometry) (order : Order) (moment size : ℕ) (is_geometry : geome
 
     -- the length stays
     length-one : length one ≡ size
-    length-one = length-put bytes zeros 0x2000 (omega (arith, second-room, second-behind)) ∙ long
+    length-one = length-put bytes zeros 0x2000 (omega (arith, area-room, area-behind)) ∙ long
 
     -- and stays
     pub length-cleared : length cleared ≡ size
-    length-cleared = length-put one zeros (area_place g Second) (omega (arith, second-room, length-one)) ∙ length-one
+    length-cleared = length-put one zeros (area_place g Second) (omega (arith, area-room, length-one)) ∙ length-one
 
     -- both areas are 0
     first-zeros : HasZeros cleared 0x2000 0x3000
     first-zeros =
-        HasZeros-same cleared one 0x2000 0x3000 (HasSame-put one zeros (area_place g Second) 0x2000 0x3000 (omega (arith, second-room, length-one)) (inl second-behind))
-        (HasZeros-within one 0x2000 (0x2000 + length zeros) 0x2000 0x3000 (omega arith) (omega arith) (HasZeros-put bytes zeros 0x2000 (omega (arith, second-room)) blank))
+        HasZeros-same cleared one 0x2000 0x3000 (HasSame-put one zeros (area_place g Second) 0x2000 0x3000 (omega (arith, area-room, length-one)) (inl area-behind))
+        (HasZeros-within one 0x2000 (0x2000 + length zeros) 0x2000 0x3000 (omega arith) (omega arith) (HasZeros-put bytes zeros 0x2000 (omega (arith, area-room)) blank))
 
     -- the second area is 0
     second-zeros : HasZeros cleared (area_place g Second) (area_place g Second + 512)
     second-zeros =
         HasZeros-within cleared (area_place g Second) (area_place g Second + length zeros) (area_place g Second) (area_place g Second + 512) (omega arith) (omega arith)
-        (HasZeros-put one zeros (area_place g Second) (omega (arith, second-room, length-one)) blank)
+        (HasZeros-put one zeros (area_place g Second) (omega (arith, area-room, length-one)) blank)
 
     -- images with the same bytes there have no superblock
     first-none : (img : List ℕ) → HasSame img cleared 0x2000 0x3000 → super_at img 0x2000 ≡ None
@@ -155,21 +98,21 @@ module _ (g : Geometry) (order : Order) (moment size : ℕ) (is_geometry : geome
     -- the blocks lie apart from both
     pub length-filled : length filled ≡ size
     length-filled =
-        length-put cleared (all_block_bytes g order moment) 0x3000 (omega (arith, second-room, length-cleared, blocks-room g own_geometry order moment)) ∙ length-cleared
+        length-put cleared (all_block_bytes g order moment) 0x3000 (omega (arith, area-room, length-cleared, blocks-room g own order moment)) ∙ length-cleared
 
     -- the first area stays 0
     first-apart : HasSame filled cleared 0x2000 0x3000
     first-apart =
-        HasSame-put cleared (all_block_bytes g order moment) 0x3000 0x2000 0x3000 (omega (arith, second-room, second-behind, length-cleared)) (inl (omega arith))
+        HasSame-put cleared (all_block_bytes g order moment) 0x3000 0x2000 0x3000 (omega (arith, area-room, area-behind, length-cleared)) (inl (omega arith))
 
     -- so does the second
     second-apart : HasSame filled cleared (area_place g Second) (area_place g Second + 512)
     second-apart =
-        HasSame-put cleared (all_block_bytes g order moment) 0x3000 (area_place g Second) (area_place g Second + 512) (omega (arith, second-room, second-behind, length-cleared)) (inr (blocks-room g own_geometry order moment))
+        HasSame-put cleared (all_block_bytes g order moment) 0x3000 (area_place g Second) (area_place g Second + 512) (omega (arith, area-room, area-behind, length-cleared)) (inr (blocks-room g own order moment))
 
     -- the blocks stand in their places
-    filled-blocks : HasBlocks g own_geometry order moment filled
-    filled-blocks = HasBlocks-put g own_geometry order moment cleared (omega (arith, second-room, second-behind, length-cleared))
+    filled-blocks : HasBlocks g own order moment filled
+    filled-blocks = HasBlocks-put g own order moment cleared (omega (arith, area-room, area-behind, length-cleared))
 
     -- while the blocks are put no area is active
     pub active_area-blocks : (places img : List ℕ) → IsTorn (blocks_stage g order moment cleared) places img → active_area img ≡ picks.None
@@ -177,9 +120,9 @@ module _ (g : Geometry) (order : Order) (moment size : ℕ) (is_geometry : geome
         let stage = blocks_stage g order moment cleared in
         let blocks : Put = record { at = 0x3000; bytes = all_block_bytes g order moment } in
         let second = area_place g Second in
-        neither_active img (torn.size ∙ length-cleared)
+        neither_active g order moment size is_geometry in_time img (torn.size ∙ length-cleared)
         (first-none img (torn_apart stage places img torn 0x2000 0x3000 (λ k low high. IsApartFrom-one blocks k (inl high))))
-        (second_at-none img second (second-none img (torn_apart stage places img torn second (second + 512) (λ k low high. IsApartFrom-one blocks k (inr (omega (arith, blocks-room g own_geometry order moment)))))))
+        (second_at-none img second (second-none img (torn_apart stage places img torn second (second + 512) (λ k low high. IsApartFrom-one blocks k (inr (omega (arith, blocks-room g own order moment)))))))
 
     -- ---- the superblocks
 
@@ -193,19 +136,19 @@ module _ (g : Geometry) (order : Order) (moment size : ℕ) (is_geometry : geome
 
     -- 512 bytes
     length-first : length first_bytes ≡ 512
-    length-first = length_made_super g own_geometry order moment in_time First
+    length-first = length_made_super g own order moment in_time First
 
     -- and 512 more
     length-second : length second_bytes ≡ 512
-    length-second = length_made_super g own_geometry order moment in_time Second
+    length-second = length_made_super g own order moment in_time Second
 
     -- they are valid on a device of this length
     first-valid : (len : ℕ) → len ≡ size → superblock_of first_bytes len ≡ Ok (made First)
-    first-valid len e = superblock_of-made g own_geometry order moment in_time First len (omega (arith, second-room))
+    first-valid len e = superblock_of-made g own order moment in_time First len (omega (arith, area-room))
 
     -- so are those of the second
     second-valid : (len : ℕ) → len ≡ size → superblock_of second_bytes len ≡ Ok (made Second)
-    second-valid len e = superblock_of-made g own_geometry order moment in_time Second len (omega (arith, second-room))
+    second-valid len e = superblock_of-made g own order moment in_time Second len (omega (arith, area-room))
 
     -- where each is put
     first_put : Put
@@ -223,7 +166,7 @@ module _ (g : Geometry) (order : Order) (moment size : ℕ) (is_geometry : geome
           let at : p.put.at ≡ 0x2000 = sym (ap (λ (q : Put). q.at) is) in
           let same : p.put.bytes ≡ first_bytes = sym (ap (λ (q : Put). q.bytes) is) in
           whole_part 0x2000 p.put.at part p.put.bytes at full (ap length same ∙ length-first) p.same ∙ same
-      | inr is ↦ let at : p.put.at ≡ area_place g Second = sym (ap (λ (q : Put). q.at) is) in let low : p.put.at ≤ 0x2000 = p.from in absurd (omega (arith, second-behind))
+      | inr is ↦ let at : p.put.at ≡ area_place g Second = sym (ap (λ (q : Put). q.at) is) in let low : p.put.at ≤ 0x2000 = p.from in absurd (omega (arith, area-behind))
     ]
 
     -- one that fits the second area's place whole is the second
@@ -234,7 +177,7 @@ module _ (g : Geometry) (order : Order) (moment size : ℕ) (is_geometry : geome
           let at : p.put.at ≡ 0x2000 = sym (ap (λ (q : Put). q.at) is) in
           let same : p.put.bytes ≡ first_bytes = sym (ap (λ (q : Put). q.bytes) is) in
           let high : area_place g Second + length part ≤ p.put.at + length p.put.bytes = p.to in
-          absurd (omega (arith, second-behind, ap length same, length-first))
+          absurd (omega (arith, area-behind, ap length same, length-first))
       | inr is ↦
           let at : p.put.at ≡ area_place g Second = sym (ap (λ (q : Put). q.at) is) in
           let same : p.put.bytes ≡ second_bytes = sym (ap (λ (q : Put). q.bytes) is) in
@@ -253,29 +196,29 @@ module _ (g : Geometry) (order : Order) (moment size : ℕ) (is_geometry : geome
           let places = places_of old size in
           let second = area_place g Second in
           let long_img : length img ≡ size = torn.size ∙ length-filled in
-          left_new old t new_tree img long_img
-          (HasBlocks-same g own_geometry order moment img filled (torn_apart stage places img torn 0x3000 second between) filled-blocks)
-          (torn_put stage places img torn 0x2000 first_bytes (made First) (0, omega arith, refl) (omega (arith, second-room, second-behind)) (first-none filled first-apart) first-only (first-valid (length img) long_img))
-          (torn_put stage places img torn second second_bytes (made Second) (1, omega arith, last_place-second) (omega (arith, second-room)) (second-none filled second-apart) second-only (second-valid (length img) long_img))
+          left_new g order moment size is_geometry in_time old t new_tree img long_img
+          (HasBlocks-same g own order moment img filled (torn_apart stage places img torn 0x3000 second between) filled-blocks)
+          (torn_put stage places img torn 0x2000 first_bytes (made First) (0, omega arith, refl) (omega (arith, area-room, area-behind)) (first-none filled first-apart) first-only (first-valid (length img) long_img))
+          (torn_put stage places img torn second second_bytes (made Second) (1, omega arith, last_place-second g order moment size is_geometry in_time) (omega (arith, area-room)) (second-none filled second-apart) second-only (second-valid (length img) long_img))
 
     -- ---- the end
 
     -- the length stays with the first
     length-with_first : length (put_at filled 0x2000 first_bytes) ≡ size
-    length-with_first = length-put filled first_bytes 0x2000 (omega (arith, second-room, second-behind, length-first, length-filled)) ∙ length-filled
+    length-with_first = length-put filled first_bytes 0x2000 (omega (arith, area-room, area-behind, length-first, length-filled)) ∙ length-filled
 
     -- and with both
     pub length-done : length done ≡ size
-    length-done = length-put (put_at filled 0x2000 first_bytes) second_bytes (area_place g Second) (omega (arith, second-room, length-second, length-with_first)) ∙ length-with_first
+    length-done = length-put (put_at filled 0x2000 first_bytes) second_bytes (area_place g Second) (omega (arith, area-room, length-second, length-with_first)) ∙ length-with_first
 
     -- the blocks stand
-    done-blocks : HasBlocks g own_geometry order moment done
+    done-blocks : HasBlocks g own order moment done
     done-blocks =
         let start = put_at filled 0x2000 first_bytes in
-        HasBlocks-same g own_geometry order moment done filled
+        HasBlocks-same g own order moment done filled
         (HasSame-then done start filled 0x3000 (area_place g Second)
-        (HasSame-put start second_bytes (area_place g Second) 0x3000 (area_place g Second) (omega (arith, second-room, length-with_first)) (inl (omega arith)))
-        (HasSame-put filled first_bytes 0x2000 0x3000 (area_place g Second) (omega (arith, second-room, second-behind, length-filled)) (inr (omega (arith, length-first)))))
+        (HasSame-put start second_bytes (area_place g Second) 0x3000 (area_place g Second) (omega (arith, area-room, length-with_first)) (inl (omega arith)))
+        (HasSame-put filled first_bytes 0x2000 0x3000 (area_place g Second) (omega (arith, area-room, area-behind, length-filled)) (inr (omega (arith, length-first)))))
         filled-blocks
 
     -- what was put whole is there
@@ -291,19 +234,19 @@ module _ (g : Geometry) (order : Order) (moment size : ℕ) (is_geometry : geome
     done-first : super_at done 0x2000 ≡ Some (made First)
     done-first =
         let start = put_at filled 0x2000 first_bytes in
-        super_at-same done start 0x2000 (length-done ∙ sym length-with_first) (HasSame-put start second_bytes (area_place g Second) 0x2000 (0x2000 + 512) (omega (arith, second-room, length-with_first)) (inl (omega (arith, second-behind))))
-        ∙ super_at-put filled first_bytes 0x2000 (made First) length-first (omega (arith, second-room, second-behind, length-filled)) (first-valid (length filled) length-filled)
+        super_at-same done start 0x2000 (length-done ∙ sym length-with_first) (HasSame-put start second_bytes (area_place g Second) 0x2000 (0x2000 + 512) (omega (arith, area-room, length-with_first)) (inl (omega (arith, area-behind))))
+        ∙ super_at-put filled first_bytes 0x2000 (made First) length-first (omega (arith, area-room, area-behind, length-filled)) (first-valid (length filled) length-filled)
 
     -- and the second
     done-second : super_at done (area_place g Second) ≡ Some (made Second)
     done-second =
         let start = put_at filled 0x2000 first_bytes in
-        super_at-put start second_bytes (area_place g Second) (made Second) length-second (omega (arith, second-room, length-with_first)) (second-valid (length start) length-with_first)
+        super_at-put start second_bytes (area_place g Second) (made Second) length-second (omega (arith, area-room, length-with_first)) (second-valid (length start) length-with_first)
 
     -- so the second area is active
     pub active-done : (active_area done ≡ picks.Active Second) × (active_super done ≡ Some (made Second))
-    active-done = both_active done done-first done-second
+    active-done = both_active g order moment size is_geometry in_time done done-first done-second
 
     -- with the new blocks
     pub AreMade-done : AreMade g order moment (image_blocks done (made Second))
-    AreMade-done = AreMade-image done Second length-done done-blocks
+    AreMade-done = AreMade-image g order moment size is_geometry in_time done Second length-done done-blocks

@@ -24,7 +24,8 @@ use Rattle.qx_make.specs.Stages.{IsInStage, Stage, after_stage, areas_stage, mak
 use Rattle.qx_make.specs.Superblocks.{made_super}
 use Rattle.qx_make.proofs.BytesAt.{HasSame, HasZeros-same, HasZeros-within, byte_of_resized, byte_of_zeros, length-resized}
 use Rattle.qx_make.proofs.ClearedAreas.{IsCleared, IsCleared-first, IsCleared-none, IsCleared-second, nothing_last}
-use Rattle.qx_make.proofs.NewVolume.{AreMade-done, active-done, active_area-blocks, last_place-second, left-supers, length-done, neither_active, second-behind, second-room}
+use Rattle.qx_make.proofs.NewVolume.{AreMade-done, active-done, active_area-blocks, left-supers, length-done}
+use Rattle.qx_make.proofs.NewSuperblocks.{last_place-second, neither_active, second-behind, second-room}
 use Rattle.qx_make.proofs.OldAreas.{left-first_itself, left-first_other, left-none, left-second_itself, left-second_other}
 use Rattle.qx_make.proofs.OldVolume.{IsActiveFirst-is, IsActiveSecond-is}
 use Rattle.qx_make.proofs.SuperblocksAt.{none_active, second_at, second_at-none, super_at, super_at-zeros}
