@@ -11,5 +11,6 @@ pub mod NewVolume
 pub mod OldVolume
 pub mod ClearedAreas
 pub mod OldAreas
+pub mod StageOrder
 pub mod TornStages
 pub mod TornImages

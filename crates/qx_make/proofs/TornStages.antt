@@ -3,6 +3,8 @@ use Rattle.std.proofs.Common.{◌≡◌, ℕ, zero, suc, ◌+◌, ◌^◌, ◌<�
 use Rattle.std.specs.Prelude.{Contains}
 use Rattle.std.proofs.lemmas.List.{length-replicate}
 use Rattle.std.proofs.lemmas.List.Elements.{Contains-append_cases}
+use Rattle.qx_outside.specs.Puts.{IsAtRest}
+use Rattle.qx_outside.proofs.PuttingMoments.{IsPutting-rest}
 use Rattle.qx_outside.specs.Trail.{History, resized}
 use Rattle.qx_fields.specs.declared.order.Order.{Order}
 use Rattle.qx_geom.specs.declared.area.Which.{Which}
@@ -20,7 +22,7 @@ use Rattle.qx_view.specs.Images.{image_blocks, main_roots}
 use Rattle.qx_view.specs.Reading.{IsTreeOf}
 use Rattle.qx_make.specs.Blocks.{AreMade}
 use Rattle.qx_make.specs.Cut.{HasNoOtherSuperblock, IsLeftByMaker, IsTorn, LeavesByMaker, last_place, new_volume, nothing, places_of}
-use Rattle.qx_make.specs.Stages.{IsInStage, Stage, after_stage, areas_stage, make_stages, new_stages, old_places, places_by, rest_stage, with_areas, with_blocks, with_supers, zero_stage, zero_stages, zeroed}
+use Rattle.qx_make.specs.Stages.{IsInStage, Passes, Stage, after_stage, areas_stage, make_stages, new_stages, old_places, places_by, rest_stage, with_areas, with_blocks, with_supers, zero_stage, zero_stages, zeroed}
 use Rattle.qx_make.specs.Superblocks.{made_super}
 use Rattle.qx_make.proofs.BytesAt.{HasSame, HasZeros-same, HasZeros-within, byte_of_resized, byte_of_zeros, length-resized}
 use Rattle.qx_make.proofs.ClearedAreas.{IsCleared, IsCleared-first, IsCleared-none, IsCleared-second, nothing_last}
@@ -28,22 +30,23 @@ use Rattle.qx_make.proofs.NewVolume.{AreMade-done, active-done, active_area-bloc
 use Rattle.qx_make.proofs.NewSuperblocks.{last_place-second, neither_active, second-behind, second-room}
 use Rattle.qx_make.proofs.OldAreas.{left-first_itself, left-first_other, left-none, left-second_itself, left-second_other}
 use Rattle.qx_make.proofs.OldVolume.{IsActiveFirst-is, IsActiveSecond-is}
+use Rattle.qx_make.proofs.StageOrder.{next_stage}
 use Rattle.qx_make.proofs.SuperblocksAt.{none_active, second_at, second_at-none, super_at, super_at-zeros}
 use Rattle.qx_make.proofs.TornImages.{IsTorn-image}
 use Rattle.qx_make.proofs.TornAreas.{AreZeros-both, one_of_two, only_one, torn_rest, torn_zeros}
 
 -- ---- the new volume, from any bytes
 
-module _ (g : Geometry) (order : Order) (moment size : ℕ) (is_geometry : geometry_of size g.blocksize g.num_inodes ≡ Ok g) (in_time : moment < 2 ^ 32) where
-  -- these bytes are a new volume, with the second area active
-  pub record IsMadeVolume (bytes : List ℕ) : Type 0 where
-    pub size_is : length bytes ≡ size
-    pub active : active_area bytes ≡ picks.Active Second
-    pub superblock : active_super bytes ≡ Some (superblock_written (made_super g order moment Second))
-    pub blocks : AreMade g order moment (image_blocks bytes (superblock_written (made_super g order moment Second)))
+-- these bytes are a new volume, with the second area active
+pub record IsMadeVolume (g : Geometry) (order : Order) (moment size : ℕ) (bytes : List ℕ) : Type 0 where
+  pub size_is : length bytes ≡ size
+  pub active : active_area bytes ≡ picks.Active Second
+  pub superblock : active_super bytes ≡ Some (superblock_written (made_super g order moment Second))
+  pub blocks : AreMade g order moment (image_blocks bytes (superblock_written (made_super g order moment Second)))
 
+module _ (g : Geometry) (order : Order) (moment size : ℕ) (is_geometry : geometry_of size g.blocksize g.num_inodes ≡ Ok g) (in_time : moment < 2 ^ 32) where
   -- whatever stood there before
-  pub made_active : (bytes : List ℕ) → length bytes ≡ size → IsMadeVolume (with_supers g order moment (with_blocks g order moment (with_areas g bytes)))
+  pub made_active : (bytes : List ℕ) → length bytes ≡ size → IsMadeVolume g order moment size (with_supers g order moment (with_blocks g order moment (with_areas g bytes)))
   made_active bytes long =
       let zeros : List ℕ = replicate 4096 0 in
       let wide : length zeros ≡ 4096 = length-replicate {A = ℕ} 4096 0 in
@@ -181,3 +184,14 @@ module _ (old : List ℕ) (size : ℕ) (t : Tree) (agree : active_area old ≡ p
     pub leaves_in_stage : (h : History) → IsInStage (make_stages g order moment size old) h → LeavesByMaker old size t h
     leaves_in_stage h inside img is no_chance =
         torn_is_left inside.stage inside.among img (IsTorn-image inside.stage (places_of old size) h img inside.putting is no_chance)
+
+    -- and while the device is at rest before a stage
+    pub leaves_at_rest : (stage : Stage) → Contains (make_stages g order moment size old) stage → (h : History) → IsAtRest stage.kept h → LeavesByMaker old size t h
+    leaves_at_rest stage among h rest = leaves_in_stage h (record { stage = stage; among = among; putting = IsPutting-rest stage.kept stage.puts h rest })
+
+    -- so at each moment of a stage, up to the sync that ends it
+    pub leaves_as_it_passes : (stage : Stage) → Contains (make_stages g order moment size old) stage → (h : History) → Passes stage h → LeavesByMaker old size t h
+    leaves_as_it_passes stage among h (inl putting) = leaves_in_stage h (record { stage = stage; among = among; putting = putting })
+    leaves_as_it_passes stage among h (inr rest) =
+        let n = next_stage g order moment size old stage among in
+        leaves_at_rest n.next n.among h (subst (λ (bytes : List ℕ). IsAtRest bytes h) (sym n.kept_is) rest)
