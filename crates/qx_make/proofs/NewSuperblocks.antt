@@ -30,7 +30,7 @@ module _ (g : Geometry) (order : Order) (moment size : ℕ) (is_geometry : geome
   pub own_geometry : IsGeometry g
   own_geometry = IsGeometry-of size g.blocksize g.num_inodes g is_geometry
 
-  -- of its length as far as it is whole
+  -- its length is that of the device, without what lies past the last whole 4096 bytes
   whole : whole_length size ≡ g.len4
   whole = ap (λ (h : Geometry). h.len4) (geometry_of-numbers size g.blocksize g.num_inodes g is_geometry)
 
@@ -38,7 +38,7 @@ module _ (g : Geometry) (order : Order) (moment size : ℕ) (is_geometry : geome
   pub last_place-second : last_place size ≡ area_place g Second
   last_place-second = omega (arith, whole, area_place-second g own_geometry)
 
-  -- it lies behind the first, and within the device
+  -- it lies within the device
   pub second-room : area_place g Second + 4096 ≤ size
   second-room = omega (arith, whole, area_place-second g own_geometry)
 

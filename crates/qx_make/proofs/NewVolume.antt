@@ -69,7 +69,7 @@ module _ (g : Geometry) (order : Order) (moment size : ℕ) (is_geometry : geome
     length-one : length one ≡ size
     length-one = length-put bytes zeros 0x2000 (omega (arith, area-room, area-behind)) ∙ long
 
-    -- and stays
+    -- with both as well
     pub length-cleared : length cleared ≡ size
     length-cleared = length-put one zeros (area_place g Second) (omega (arith, area-room, length-one)) ∙ length-one
 
@@ -95,12 +95,12 @@ module _ (g : Geometry) (order : Order) (moment size : ℕ) (is_geometry : geome
     second-none img same =
         super_at-zeros img (area_place g Second) (HasZeros-same img cleared (area_place g Second) (area_place g Second + 512) same second-zeros)
 
-    -- the blocks lie apart from both
+    -- and with the blocks
     pub length-filled : length filled ≡ size
     length-filled =
         length-put cleared (all_block_bytes g order moment) 0x3000 (omega (arith, area-room, length-cleared, blocks-room g own order moment)) ∙ length-cleared
 
-    -- the first area stays 0
+    -- they lie apart from both areas: the first stays
     first-apart : HasSame filled cleared 0x2000 0x3000
     first-apart =
         HasSame-put cleared (all_block_bytes g order moment) 0x3000 0x2000 0x3000 (omega (arith, area-room, area-behind, length-cleared)) (inl (omega arith))
@@ -134,11 +134,11 @@ module _ (g : Geometry) (order : Order) (moment size : ℕ) (is_geometry : geome
     abbrev second_bytes : List ℕ
     second_bytes = made_super_bytes g order moment Second
 
-    -- 512 bytes
+    -- they are 512
     length-first : length first_bytes ≡ 512
     length-first = length_made_super g own order moment in_time First
 
-    -- and 512 more
+    -- so are the second's
     length-second : length second_bytes ≡ 512
     length-second = length_made_super g own order moment in_time Second
 
