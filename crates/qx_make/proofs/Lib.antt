@@ -24,3 +24,16 @@ pub mod NewWalk
 pub mod NewReasons
 pub mod NewSoundness
 pub mod NewSupers
+pub mod BytesAt
+pub mod SuperblocksAt
+pub mod TornAreas
+pub mod MadeBlocks
+pub mod MadeSuperblocks
+pub mod NewSuperblocks
+pub mod NewVolume
+pub mod OldVolume
+pub mod ClearedAreas
+pub mod OldAreas
+pub mod StageOrder
+pub mod TornStages
+pub mod TornImages
