@@ -1,10 +1,11 @@
 -- The tree of a volume: inodes in order of their numbers, directories as lists of slots, and nothing of where anything lies.
 use Rattle.std.specs.Prelude.{◌≡◌, ℕ, zero, suc, Bool, true, false, ◌&&◌, List, [], ◌∷◌, Option, Some, None, ◌==◌, slice_get, if◌then◌else◌}
+use Rattle.std.specs.Option.{option_flatten}
 use Rattle.qx_model.specs.declared.attr.Attr.{Attr}
 
 -- one record of a directory: unused, or a row; a long name has a number in the Longfile
 pub data Slot : Type 0 where
-  Free : Slot
+  Unused : Slot
   Row : (inode : ℕ) (name : List ℕ) (long : Option ℕ) → Slot
 
 -- what an inode holds
@@ -28,15 +29,10 @@ pub record Tree : Type 0 where
   pub long_names : List (Option (List ℕ))
   pub long_present : List ℕ
 
--- one option of two
-abbrev pub flat : {A : Type 0} → Option (Option A) → Option A
-flat None = None
-flat (Some o) = o
-
 -- inode n, where it is live
 abbrev pub entry_of : Tree → ℕ → Option Entry
 entry_of t zero = None
-entry_of t (suc n) = flat (slice_get t.inodes n)
+entry_of t (suc n) = option_flatten (slice_get t.inodes n)
 
 -- the slots of a directory; none of anything else
 abbrev pub slots_of_body : Body → List Slot
@@ -70,7 +66,7 @@ is_dots (a ∷ b ∷ c ∷ rest) = false
 
 -- the inode that a row names, unless the row is `.` or `..`
 abbrev pub named_by : Slot → Option ℕ
-named_by Free = None
+named_by Unused = None
 named_by (Row n name long) = if is_dots name then None else Some n
 
 -- slot k of directory d is a row that names n, `.` and `..` not counted
@@ -87,5 +83,5 @@ pub data Reached (t : Tree) : ℕ → Type 0 where
   down : {d n : ℕ} → Reached t d → Names t d n → Reached t n
 
 -- inode d is a directory with this parent
-abbrev pub IsDirectoryIn : Tree → ℕ → ℕ → Type 0
-IsDirectoryIn t d parent = (e : Entry) × (slots : List Slot) × (entry_of t d ≡ Some e) × (e.body ≡ Directory slots parent)
+abbrev pub IsDirectory : Tree → ℕ → ℕ → Type 0
+IsDirectory t d parent = (e : Entry) × (slots : List Slot) × (entry_of t d ≡ Some e) × (e.body ≡ Directory slots parent)

@@ -6,7 +6,7 @@ use Rattle.qx_fields.specs.declared.order.Order.TheVariants.{Little}
 use Rattle.qx_fields.specs.Number.{digits}
 use Rattle.qx_geom.specs.declared.root.Root.{Root}
 use Rattle.qx_geom.specs.Pointer.{absent}
-use Rattle.qx_model.specs.Tree.{Directory, Free, Row, Tree}
+use Rattle.qx_model.specs.Tree.{Directory, Unused, Row, Tree}
 use Rattle.qx_nodes.specs.BlockMap.{BlockMap}
 use Rattle.qx_super.specs.Superblock.{Superblock}
 use Rattle.qx_view.specs.Images.{Roots}
@@ -75,7 +75,7 @@ one_file order = record {
 
 -- where its tree begins
 abbrev pub small_roots : Roots
-small_roots = record { inodes = one_pointer 512 2; longfile = one_pointer 0 absent; beside = one_pointer 1 1 ∷ [] }
+small_roots = record { inodes = one_pointer 512 2; longfile = one_pointer 0 absent; further = one_pointer 1 1 ∷ [] }
 
 -- ---- a directory of 2^48 bytes under 5 levels
 
@@ -150,7 +150,7 @@ empty_tree = record {
     attr = record { mode = 0x41ED; uid = 0; gid = 0; ftime = 0; mtime = 0; atime = 0; ctime = 0 };
     size = 512;
     present = 0 ∷ [];
-    body = Directory (Row 1 (46 ∷ []) None ∷ Row 1 (46 ∷ 46 ∷ []) None ∷ replicate 14 Free) 1;
+    body = Directory (Row 1 (46 ∷ []) None ∷ Row 1 (46 ∷ 46 ∷ []) None ∷ replicate 14 Unused) 1;
   }) ∷ replicate 15 None;
   long_size = 0;
   long_names = [];
@@ -182,4 +182,4 @@ with_long_row number sum = made_but ((10, dots_bytes 1 1 ++ long_row_bytes numbe
 
 -- where the tree begins if block 20 is the Longfile's first leaf
 abbrev pub long_roots : Roots
-long_roots = record { inodes = made_super.inode; longfile = one_pointer 512 20; beside = made_super.bitmap ∷ [] }
+long_roots = record { inodes = made_super.inode; longfile = one_pointer 512 20; further = made_super.bitmap ∷ [] }

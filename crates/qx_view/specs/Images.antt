@@ -1,6 +1,7 @@
 -- The blocks of an image, and the records that stand in its nodes.
 use Rattle.std.specs.Prelude.{ℕ, ◌+◌, ◌*◌, ◌-◌, ◌^◌, ◌/◌, Bool, List, [], ◌∷◌, Option, None, nat_le, nat_lt, slice_range, if◌then◌else◌}
 use Rattle.qx_geom.specs.declared.root.Root.{Root}
+use Rattle.qx_geom.specs.Layout.{blocks_begin}
 use Rattle.qx_geom.specs.Pointer.{absent}
 use Rattle.qx_nodes.specs.BlockMap.{BlockMap}
 use Rattle.qx_nodes.specs.Leaves.{Leaf, Block, Hole, Damage, leaf_of}
@@ -12,21 +13,21 @@ use Rattle.qx_super.specs.Superblock.{Superblock}
 
 -- the bytes of a block of an image
 abbrev pub block_bytes : List ℕ → ℕ → ℕ → List ℕ
-block_bytes img size b = slice_range img (0x3000 + b * size) (0x3000 + b * size + size)
+block_bytes img size b = slice_range img (blocks_begin + b * size) (blocks_begin + b * size + size)
 
 -- the blocks of an image whose active superblock this is
 abbrev pub image_blocks : List ℕ → Superblock → BlockMap
 image_blocks img s = record { order = s.order; size = s.blocksize; count = s.num_blocks; bytes = block_bytes img s.blocksize }
 
--- where a tree begins: its Inode and Longfile root nodes, and the root nodes beside them
+-- where a tree begins: its Inode and Longfile root nodes, and further root nodes whose blocks are held as well
 pub record Roots : Type 0 where
   pub inodes : Root
   pub longfile : Root
-  pub beside : List Root
+  pub further : List Root
 
 -- the roots of the tree of a superblock
 abbrev pub main_roots : Superblock → Roots
-main_roots s = record { inodes = s.inode; longfile = s.longfile; beside = s.bitmap ∷ [] }
+main_roots s = record { inodes = s.inode; longfile = s.longfile; further = s.bitmap ∷ [] }
 
 -- how many inodes an Inode tree has places for: those within its size that a u32 can number
 abbrev pub places_in : Root → ℕ
