@@ -283,21 +283,21 @@ pub data Verdict : Type 0 where
   Disagree : Verdict
   Damaged : Finding → Verdict
   Foreign : Reason → Verdict
-  Clean : Verdict
+  Clean : (area : Which) (superblock : Superblock) → Verdict
 
--- the first of a finding, a reason and a last finding
-abbrev pub verdict_by : Option Finding → Option Reason → Option Finding → Verdict
-verdict_by (Some f) reason last = Damaged f
-verdict_by None (Some reason) last = Foreign reason
-verdict_by None None (Some f) = Damaged f
-verdict_by None None None = Clean
+-- the first of a finding, a reason and a last finding, or else clean with this area and its superblock
+abbrev pub verdict_by : Which → Superblock → Option Finding → Option Reason → Option Finding → Verdict
+verdict_by which s (Some f) reason last = Damaged f
+verdict_by which s None (Some reason) last = Foreign reason
+verdict_by which s None None (Some f) = Damaged f
+verdict_by which s None None None = Clean which s
 
 -- the verdict on an image with this area's superblock
 abbrev pub verdict_with : List ℕ → Which → Option Superblock → Verdict
 verdict_with img which None = NoVolume
 verdict_with img which (Some s) =
     let m = image_blocks img s in
-    verdict_by (finding_of m (main_roots s)) (reason_of m s which (length img)) (last_finding m s (length img))
+    verdict_by which s (finding_of m (main_roots s)) (reason_of m s which (length img)) (last_finding m s (length img))
 
 -- the verdict on an image with this active area
 abbrev pub verdict_at : List ℕ → Pick → Verdict

@@ -37,10 +37,12 @@ pub fn a_tree_means_no_finding()
         → finding_of (image_blocks img s) (main_roots s) ≡ None }
 {}
 
-/// An image is clean exactly where it is sound.
+/// An image is clean exactly where it is sound, and then with its active area and that area's superblock.
 pub fn clean_images_are_the_sound_ones()
-    ensures clean { (img : List ℕ) → verdict_of img ≡ Clean → (t : Tree) × IsSound img t }
-    ensures sound { (img : List ℕ) (t : Tree) → IsSound img t → verdict_of img ≡ Clean }
+    ensures clean { (img : List ℕ) (area : Which) (s : Superblock) → verdict_of img ≡ Clean area s
+        → (active_area img ≡ picks.Active area) × (active_super img ≡ Some s) × ((t : Tree) × IsSound img t) }
+    ensures sound { (img : List ℕ) (t : Tree) (area : Which) (s : Superblock) → IsSound img t
+        → active_area img ≡ picks.Active area → active_super img ≡ Some s → verdict_of img ≡ Clean area s }
 {}
 
 /// An image is foreign for a reason exactly where it has a tree and the reason is the first that applies.
