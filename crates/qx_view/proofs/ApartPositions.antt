@@ -249,7 +249,7 @@ module _ (m : BlockMap) (r : Roots) (s : HasSize m) (none : finding_of m r ≡ N
   undamaged (OfInode n) v (node, h, c) = let o : OwnNode n node = own_node n node h in o.pass.undamaged v (subst (λ z. Contains (visits_of m z) v) o.is c)
 
   -- each position of the tree is one that the walk met
-  stands_placed : (o : Owner) (v : Visit) → StandsAt m r (tree_found m r) o v → Contains (all_placed m r) (o, v)
+  pub stands_placed : (o : Owner) (v : Visit) → StandsAt m r (tree_found m r) o v → Contains (all_placed m r) (o, v)
   stands_placed OfInodes v (node, is, c) =
       Contains-append_left (placed m OfInodes r.inodes ++ placed m OfLongfile r.longfile ++ placed_further m 0 r.further) (flat_map (placed_taken m r) (taken_of m r)) (OfInodes, v)
       (Contains-append_left (placed m OfInodes r.inodes ++ placed m OfLongfile r.longfile) (placed_further m 0 r.further) (OfInodes, v)

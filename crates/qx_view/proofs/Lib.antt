@@ -14,6 +14,7 @@ pub mod Verdicts
 pub mod AlikeLists
 pub mod SystemTrees
 pub mod OuterNodes
+pub mod MetBlocks
 pub mod ActiveHalf
 pub mod NodesAlike
 pub mod WalkAlike

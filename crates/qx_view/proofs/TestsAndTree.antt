@@ -150,7 +150,7 @@ module _ (m : BlockMap) (r : Roots) (t : Tree) (s : HasSize m) (is : IsTreeOf m 
   stands o x node e h c = subst (λ z. StandsAt m r t z x.1) (sym e) (node, h, c)
 
   -- each position of the walk is one of the tree
-  placed_stands : (x : Owner × Visit) → Contains (all_placed m r) x → StandsAt m r t x.0 x.1
+  pub placed_stands : (x : Owner × Visit) → Contains (all_placed m r) x → StandsAt m r t x.0 x.1
   placed_stands x h =
       let a : List (Owner × Visit) = placed m OfInodes r.inodes in
       let b : List (Owner × Visit) = placed m OfLongfile r.longfile in
@@ -171,7 +171,7 @@ module _ (m : BlockMap) (r : Roots) (t : Tree) (s : HasSize m) (is : IsTreeOf m 
       ]
 
   -- no block is met twice
-  met_differ : all_differ (met_of (tests_of m r)) ≡ true
+  pub met_differ : all_differ (met_of (tests_of m r)) ≡ true
   met_differ = subst (λ z. all_differ z ≡ true) (sym (met_all m r)) (numbers_differ block_at (all_placed m r) all_distinct
       (λ x y a b e. let both : (x.0 ≡ y.0) × (x.1 ≡ y.1) = is.apart x.0 y.0 x.1 y.1 (placed_stands x a) (placed_stands y b) e in λ i. (both.0 i, both.1 i)))
 

@@ -6,4 +6,5 @@ pub mod Images
 pub mod Reading
 pub mod Walk
 pub mod Sound
+pub mod Usage
 pub mod Examples

@@ -1,14 +1,18 @@
 //! Laws of what an image means.
-ghost use Rattle.std.specs.Prelude.{◌≡◌, ◌⊎◌, ◌↔◌, ◌+◌, ◌*◌, ◌<◌, ◌≤◌, ℕ, Bool, List, length, Some, None};
+ghost use Rattle.std.specs.Prelude.{◌≡◌, ◌⊎◌, ◌↔◌, ◌+◌, ◌*◌, ◌<◌, ◌≤◌, ℕ, Bool, List, Contains, length, Some, None};
 ghost use Rattle.qx_geom.specs.declared.area.Which.{Which};
 ghost use Rattle.qx_geom.specs.declared.geometry.Geometry.{Geometry};
 ghost use Rattle.qx_geom.specs.Layout.{IsPointerBlock, first_block};
+ghost use Rattle.qx_geom.specs.Lists.{Distinct};
+ghost use Rattle.qx_nodes.specs.BlockMap.{BlockMap};
+ghost use Rattle.qx_nodes.specs.Content.{HasSize};
 ghost use Rattle.qx_model.specs.Tree.{Tree};
 ghost use Rattle.qx_super.specs.declared.choice.Pick.TheVariants as picks;
 ghost use Rattle.qx_super.specs.Active.{active_area, active_super};
 ghost use Rattle.qx_super.specs.Superblock.{Superblock};
-ghost use Rattle.qx_view.specs.Images.{block_bytes, image_blocks, main_roots};
-ghost use Rattle.qx_view.specs.Reading.{IsHeld, IsTree};
+ghost use Rattle.qx_view.specs.Images.{Roots, block_bytes, image_blocks, main_roots};
+ghost use Rattle.qx_view.specs.Reading.{IsHeld, IsTree, IsTreeOf};
+ghost use Rattle.qx_view.specs.Usage.{met_blocks};
 ghost use Rattle.qx_view.specs.Walk.{Finding, finding_of};
 ghost use Rattle.qx_view.specs.Sound.{Clean, Damaged, Foreign, IsDamaged, IsForeign, IsSound, Reason, verdict_of, written_geometry};
 
@@ -35,6 +39,13 @@ pub fn no_finding_means_a_tree()
 pub fn a_tree_means_no_finding()
     ensures { (img : List ℕ) (t : Tree) (s : Superblock) → active_super img ≡ Some s → IsTree img t
         → finding_of (image_blocks img s) (main_roots s) ≡ None }
+{}
+
+/// The walk of roots that have a tree comes to each block that the tree holds, to each once, and to no other.
+pub fn the_walk_meets_the_held_blocks()
+    ensures held { (m : BlockMap) (r : Roots) (t : Tree) (b : ℕ) → HasSize m → IsTreeOf m r t
+        → Contains (met_blocks m r) b ↔ IsHeld m r t b }
+    ensures once { (m : BlockMap) (r : Roots) (t : Tree) → HasSize m → IsTreeOf m r t → Distinct (met_blocks m r) }
 {}
 
 /// An image is clean exactly where it is sound, and then with its active area and that area's superblock.

@@ -10,11 +10,12 @@ mod laws;
 
 pub use examples::{
     a_new_volume_is_clean, the_findings_of_changed_volumes, the_last_findings_of_changed_volumes,
-    the_leaves_under_levels, the_reasons_of_changed_volumes, the_walk_in_both_orders,
-    the_walk_of_a_vast_directory, the_walk_of_two_directories,
+    the_leaves_under_levels, the_reasons_of_changed_volumes, the_usage_of_a_new_volume,
+    the_walk_in_both_orders, the_walk_of_a_vast_directory, the_walk_of_two_directories,
 };
 pub use laws::{
     a_tree_means_no_finding, an_image_has_one_tree, clean_images_are_the_sound_ones,
     damaged_images_have_a_finding, foreign_images_have_a_tree, held_blocks_decide_the_tree,
-    no_finding_means_a_tree, the_active_half_is_held, what_soundness_depends_on,
+    no_finding_means_a_tree, the_active_half_is_held, the_walk_meets_the_held_blocks,
+    what_soundness_depends_on,
 };
