@@ -15,6 +15,7 @@ pub mod AlikeLists
 pub mod SystemTrees
 pub mod OuterNodes
 pub mod MetBlocks
+pub mod HoleRecords
 pub mod ActiveHalf
 pub mod NodesAlike
 pub mod WalkAlike

@@ -17,6 +17,7 @@ use Rattle.qx_nodes.specs.BlockMap.{BlockMap}
 use Rattle.qx_nodes.specs.Content.{HasSize, root_fits}
 use Rattle.qx_nodes.specs.Visits.{Visit, visits_of}
 use Rattle.qx_records.specs.InodeRecord.{kind_of}
+use Rattle.qx_view.proofs.AlikeLists.{flat_map_members}
 use Rattle.qx_view.proofs.ApartPositions.{all_placed, block_at, met_all, placed, placed_further, placed_kind, placed_taken}
 use Rattle.qx_view.proofs.TestsFromTree.{AllTested, AllTested-append, AllTested-flat, TakenIn, in_inodes, inode_tested, kind_here, node_tested, none_from, queue_is, taken_differ, taken_in}
 use Rattle.qx_view.proofs.TreeLocality.{not_special}
@@ -31,14 +32,6 @@ map-Contains f [] y c = absurd (omega (arith, c.1))
 map-Contains f (x ∷ xs) y c = elim (Contains-cases (f x) y (map f xs) c) [
   | inl is ↦ (x, Contains-head x xs, is)
   | inr there ↦ let r = map-Contains f xs y there in (r.0, Contains-cons x r.0 xs r.1, r.2)
-]
-
--- an element of the parts of a list
-flat-Contains : {A B : Type 0} (f : A → List B) (xs : List A) (y : B) → Contains (flat_map f xs) y → (x : A) × Contains xs x × Contains (f x) y
-flat-Contains f [] y c = absurd (omega (arith, c.1))
-flat-Contains f (x ∷ xs) y c = elim (Contains-append_cases (f x) (flat_map f xs) y c) [
-  | inl here ↦ (x, Contains-head x xs, here)
-  | inr there ↦ let r = flat-Contains f xs y there in (r.0, Contains-cons x r.0 xs r.1, r.2)
 ]
 
 -- a position of a node is its owner's
@@ -98,7 +91,7 @@ taken_distinct : (m : BlockMap) (r : Roots) (ts : List Taken) → 0 < per_block 
 taken_distinct m r [] pos d = tt
 taken_distinct m r (t ∷ ts) pos d = Distinct-append (placed_taken m r t) (flat_map (placed_taken m r) ts) (kind_distinct m r t.inode (kind_of (inode_mode m r t.inode)) pos) (taken_distinct m r ts pos (and_right (not (is_in (inodes ts) t.inode)) (all_differ (inodes ts)) d))
     (λ x a b. let p : (x.0 ≡ OfInode t.inode) × Contains (visits_of m (inode_root m r t.inode)) x.1 = kind_owner m r t.inode (kind_of (inode_mode m r t.inode)) x a in
-    let q : (u : Taken) × Contains ts u × Contains (placed_taken m r u) x = flat-Contains (placed_taken m r) ts x b in
+    let q : (u : Taken) × Contains ts u × Contains (placed_taken m r u) x = flat_map_members (placed_taken m r) ts x b in
     let w : (x.0 ≡ OfInode q.0.inode) × Contains (visits_of m (inode_root m r q.0.inode)) x.1 = kind_owner m r q.0.inode (kind_of (inode_mode m r q.0.inode)) x q.2 in
     let owners : OfInode t.inode ≡ OfInode q.0.inode = sym p.0 ∙ w.0 in
     let same : t.inode ≡ q.0.inode = cc in
@@ -123,7 +116,7 @@ module _ (m : BlockMap) (r : Roots) (t : Tree) (s : HasSize m) (is : IsTreeOf m 
         | inr y ↦ let e : OfLongfile ≡ OfFurther (0 + (further_is m 0 r.further x k).place) = sym (placed_owner m OfLongfile r.longfile x y).0 ∙ q in cc
       ]))
       (taken_distinct m r (taken_of m r) s.words (taken_differ m r (inode_places r + 1) ((1, 1) ∷ []) (1 ∷ []) (queue_is m r t is)))
-      (λ x h k. let q : (u : Taken) × Contains (taken_of m r) u × Contains (placed_taken m r u) x = flat-Contains (placed_taken m r) (taken_of m r) x k in
+      (λ x h k. let q : (u : Taken) × Contains (taken_of m r) u × Contains (placed_taken m r u) x = flat_map_members (placed_taken m r) (taken_of m r) x k in
       let w : x.0 ≡ OfInode q.0.inode = (kind_owner m r q.0.inode (kind_of (inode_mode m r q.0.inode)) x q.2).0 in
       elim (Contains-append_cases (a ++ b) c x h) [
         | inl y ↦ elim (Contains-append_cases a b x y) [
@@ -165,7 +158,7 @@ module _ (m : BlockMap) (r : Roots) (t : Tree) (s : HasSize m) (is : IsTreeOf m 
           | inr z ↦ let q : IsFurther m 0 r.further x = further_is m 0 r.further x z in
               stands (OfFurther q.place) x q.node (q.owner ∙ ap (λ k. OfFurther k) (omega arith)) q.at q.met
         ]
-        | inr y ↦ let q : (u : Taken) × Contains (taken_of m r) u × Contains (placed_taken m r u) x = flat-Contains (placed_taken m r) (taken_of m r) x y in
+        | inr y ↦ let q : (u : Taken) × Contains (taken_of m r) u × Contains (placed_taken m r u) x = flat_map_members (placed_taken m r) (taken_of m r) x y in
             let w : (x.0 ≡ OfInode q.0.inode) × Contains (visits_of m (inode_root m r q.0.inode)) x.1 = kind_owner m r q.0.inode (kind_of (inode_mode m r q.0.inode)) x q.2 in
             stands (OfInode q.0.inode) x (inode_root m r q.0.inode) w.0 (has_node q.0 q.1 x q.2) w.1
       ]
