@@ -7,6 +7,7 @@
 
 mod examples;
 mod laws;
+mod volumes;
 
 pub use examples::{
     a_new_volume_is_clean, the_findings_of_changed_volumes, the_last_findings_of_changed_volumes,
@@ -19,4 +20,8 @@ pub use laws::{
     no_finding_means_a_tree, records_in_holes_say_nothing, the_active_half_is_held,
     the_records_of_present_leaves_say_all, the_walk_meets_the_held_blocks,
     what_soundness_depends_on,
+};
+pub use volumes::{
+    a_long_name_has_one_row, a_volume_of_eighteen_inodes, a_volume_with_pointer_blocks,
+    the_walk_of_three_directories, the_walk_takes_what_was_listed_first,
 };
