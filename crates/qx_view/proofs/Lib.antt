@@ -21,3 +21,4 @@ pub mod NodesAlike
 pub mod WalkAlike
 pub mod ReasonsAlike
 pub mod SoundLocality
+pub mod SmallImages

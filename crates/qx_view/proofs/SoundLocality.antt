@@ -74,7 +74,7 @@ each_none (Some x ∷ os) k o e at = absurd (cc)
 
 module _ (m : BlockMap) (bytes : ℕ → List ℕ) (s : Superblock) (t : Tree) (size : HasSize m) (is : IsTreeOf m (main_roots s) t) (held : (b : ℕ) → IsHeld m (main_roots s) t b → m.bytes b ≡ bytes b) where
   -- no reason applies, where none does and the words of both halves are the same
-  reasons_alike : (g : Geometry) (which : Which) → 64 ≤ m.size → leaves_below m s.bitmap ≡ g.bitmap_leaves → ((h : Which) → has_system_trees m g h ≡ has_system_trees (with_bytes m bytes) g h)
+  pub reasons_alike : (g : Geometry) (which : Which) → 64 ≤ m.size → leaves_below m s.bitmap ≡ g.bitmap_leaves → ((h : Which) → has_system_trees m g h ≡ has_system_trees (with_bytes m bytes) g h)
       → first_some (reasons_in m s g which (main_roots s) (outer_blocks m (main_roots s)) (walked_inodes m (main_roots s))) ≡ None → first_some (reasons_in (with_bytes m bytes) s g which (main_roots s) (outer_blocks (with_bytes m bytes) (main_roots s)) (walked_inodes (with_bytes m bytes) (main_roots s))) ≡ None
   reasons_alike g which large leaves halves none =
       let nodes : first_below (fails_nodes m (main_roots s) (walked_inodes m (main_roots s))) (inode_places (main_roots s) + 1) ≡ None = reason_none 4 (first_below (fails_nodes m (main_roots s) (walked_inodes m (main_roots s))) (inode_places (main_roots s) + 1)) (each_none (reasons_in m s g which (main_roots s) (outer_blocks m (main_roots s)) (walked_inodes m (main_roots s))) 2 _ none refl) in
@@ -96,7 +96,7 @@ module _ (m : BlockMap) (bytes : ℕ → List ℕ) (s : Superblock) (t : Tree) (
       sym (same ∙ at_others) ∙ none
 
   -- the same is found last
-  last_alike : (o : Option Geometry) → last_with m s o ≡ last_with (with_bytes m bytes) s o
+  pub last_alike : (o : Option Geometry) → last_with m s o ≡ last_with (with_bytes m bytes) s o
   last_alike None = refl
   last_alike (Some g) =
       let tails : first_below (fails_tail m (main_roots s) (walked_inodes m (main_roots s))) (inode_places (main_roots s) + 1) ≡ first_below (fails_tail (with_bytes m bytes) (main_roots s) (walked_inodes m (main_roots s))) (inode_places (main_roots s) + 1) =

@@ -8,3 +8,4 @@ pub mod Walk
 pub mod Sound
 pub mod Usage
 pub mod Examples
+pub mod SmallImage

@@ -6,6 +6,7 @@
 #![tactic(auto)]
 
 mod examples;
+mod images;
 mod laws;
 mod volumes;
 
@@ -14,6 +15,7 @@ pub use examples::{
     the_leaves_under_levels, the_reasons_of_changed_volumes, the_usage_of_a_new_volume,
     the_walk_in_both_orders, the_walk_of_a_vast_directory, the_walk_of_two_directories,
 };
+pub use images::{the_small_image_is_clean, the_small_image_with_changed_superblocks};
 pub use laws::{
     a_tree_means_no_finding, an_image_has_one_tree, clean_images_are_the_sound_ones,
     damaged_images_have_a_finding, foreign_images_have_a_tree, held_blocks_decide_the_tree,
