@@ -16,6 +16,7 @@ pub mod SystemTrees
 pub mod OuterNodes
 pub mod MetBlocks
 pub mod HoleRecords
+pub mod HollowTop
 pub mod ActiveHalf
 pub mod NodesAlike
 pub mod WalkAlike

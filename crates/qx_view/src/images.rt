@@ -1,5 +1,5 @@
 //! Whole images, byte by byte: what the maker writes on a device of 65536 bytes, and what changed superblocks make of it.
-ghost use Rattle.std.specs.Prelude.{◌≡◌, length, Some};
+ghost use Rattle.std.specs.Prelude.{◌≡◌, length, take, Some};
 ghost use Rattle.qx_geom.specs.declared.area.Which.TheVariants as areas;
 ghost use Rattle.qx_super.specs.declared.choice.Pick.TheVariants as picks;
 ghost use Rattle.qx_super.specs.Active.{active_area, active_super};
@@ -23,4 +23,11 @@ pub fn the_small_image_with_changed_superblocks()
     ensures second { verdict_of (image_with first_bytes (changed second_bytes)) ≡ Clean areas.First made_first }
     ensures second_tree { IsSound (image_with first_bytes (changed second_bytes)) empty_tree }
     ensures both { verdict_of (image_with (changed first_bytes) (changed second_bytes)) ≡ NoVolume }
+{}
+
+/// Cut to the end of the second superblock it still has its active area; with a byte less no superblock is valid.
+pub fn the_small_image_cut_short()
+    ensures whole { active_area (take 61952 small_image) ≡ picks.Active areas.Second }
+    ensures part { active_area (take 61951 small_image) ≡ picks.None }
+    ensures no_volume { verdict_of (take 61951 small_image) ≡ NoVolume }
 {}

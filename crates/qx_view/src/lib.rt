@@ -15,7 +15,9 @@ pub use examples::{
     the_leaves_under_levels, the_reasons_of_changed_volumes, the_usage_of_a_new_volume,
     the_walk_in_both_orders, the_walk_of_a_vast_directory, the_walk_of_two_directories,
 };
-pub use images::{the_small_image_is_clean, the_small_image_with_changed_superblocks};
+pub use images::{
+    the_small_image_cut_short, the_small_image_is_clean, the_small_image_with_changed_superblocks,
+};
 pub use laws::{
     a_tree_means_no_finding, an_image_has_one_tree, clean_images_are_the_sound_ones,
     damaged_images_have_a_finding, foreign_images_have_a_tree, held_blocks_decide_the_tree,
@@ -25,5 +27,5 @@ pub use laws::{
 };
 pub use volumes::{
     a_long_name_has_one_row, a_volume_of_eighteen_inodes, a_volume_with_pointer_blocks,
-    the_walk_of_three_directories, the_walk_takes_what_was_listed_first,
+    the_walk_of_three_directories, the_walk_takes_what_was_listed_first, the_worked_images,
 };

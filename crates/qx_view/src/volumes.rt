@@ -1,10 +1,10 @@
 //! More volumes on which the definitions are computed: the order of the walk, and what only a larger layout shows.
-ghost use Rattle.std.specs.Prelude.{◌≡◌, ◌∷◌, [], ◌++◌, drop, replicate, Some, None};
+ghost use Rattle.std.specs.Prelude.{◌≡◌, ◌^◌, ◌∷◌, [], ◌++◌, drop, replicate, take, Some, None};
 ghost use Rattle.qx_geom.specs.declared.area.Which.TheVariants as areas;
 ghost use Rattle.qx_view.specs.Images.{main_roots};
 ghost use Rattle.qx_view.specs.Walk.{finding_of, walked_inodes};
 ghost use Rattle.qx_view.specs.Sound.{last_finding, reason_of};
-ghost use Rattle.qx_view.specs.Examples.{eighteen_inodes, eighteen_super, eighty_inodes, eighty_super, long_row_of, long_super, made_super, pointers_from, row_bytes, with_directories, with_faulty, with_long_name};
+ghost use Rattle.qx_view.specs.Examples.{bitmap_bytes, directory_bytes, dots_bytes, eighteen_inodes, eighteen_super, eighty_inodes, eighty_super, inode_bytes_with, long_row_of, long_super, made_blocks, made_but, made_super, pointers_from, row_bytes, with_directories, with_faulty, with_long_name, with_top};
 
 /// Three directories: one that is named again, by a later row of its parent or by another directory, is found at that row. One whose `..` names
 /// another than the directory that names it is found at its own.
@@ -53,4 +53,18 @@ pub fn a_volume_with_pointer_blocks()
     ensures other_word { reason_of (eighty_inodes (2 ∷ [] ++ drop 1 (pointers_from 1 20))) eighty_super areas.Second 65536 ≡ Some (record { reason = 2; at = 0 }) }
     ensures word_more { reason_of (eighty_inodes (pointers_from 1 21)) eighty_super areas.Second 65536 ≡ Some (record { reason = 2; at = 0 }) }
     ensures empty { reason_of (eighty_inodes []) eighty_super areas.Second 65536 ≡ Some (record { reason = 2; at = 0 }) }
+{}
+
+/// Changes of the small volume with what the checker says of each: a pointer into a half, a record of length 28, 6 levels, bits 8 to 10 clear,
+/// one block under two pointers, a directory block taken for pointers, a directory of 2^48 bytes with no block, and a shorter device.
+pub fn the_worked_images()
+    ensures pointer_into_a_half { reason_of (with_top (directory_bytes 2)) made_super areas.Second 65536 ≡ Some (record { reason = 2; at = 0 }) }
+    ensures length_of_28 { finding_of (made_but ((10, take 4 (dots_bytes 1 1) ++ 28 ∷ drop 5 (dots_bytes 1 1)) ∷ [])) (main_roots made_super) ≡ Some (record { code = 7; inode = 1; block = 10 }) }
+    ensures six_levels { finding_of (with_top (inode_bytes_with 512 0x41ED 6 1 (10 ∷ []))) (main_roots made_super) ≡ Some (record { code = 1; inode = 1; block = 0xFFFFFFFF }) }
+    ensures three_bits_clear { reason_of (made_but ((5, bitmap_bytes 0xE0) ∷ [])) made_super areas.Second 65536 ≡ Some (record { reason = 3; at = 8 }) }
+    ensures one_block_twice { finding_of (with_top (inode_bytes_with 1024 0x41ED 0 1 (10 ∷ 10 ∷ []))) (main_roots made_super) ≡ Some (record { code = 3; inode = 1; block = 10 }) }
+    ensures records_as_pointers { finding_of (with_top (inode_bytes_with (2 ^ 48) 0x41ED 5 1 (10 ∷ []))) (main_roots made_super) ≡ Some (record { code = 2; inode = 1; block = 512 }) }
+    ensures vast_hole_whole { finding_of (with_top (inode_bytes_with (2 ^ 48) 0x41ED 5 1 [])) (main_roots made_super) ≡ None }
+    ensures vast_hole { reason_of (with_top (inode_bytes_with (2 ^ 48) 0x41ED 5 1 [])) made_super areas.Second 65536 ≡ Some (record { reason = 3; at = 10 }) }
+    ensures shorter_device { reason_of made_blocks made_super areas.Second 61952 ≡ Some (record { reason = 1; at = 0 }) }
 {}
