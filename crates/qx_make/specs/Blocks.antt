@@ -1,0 +1,86 @@
+-- What the maker writes into the blocks of both halves, and into the root directory's block behind them.
+use Rattle.std.specs.Prelude.{ℕ, ◌≡◌, ◌+◌, ◌*◌, ◌-◌, ◌^◌, ◌≤◌, Bool, true, false, ◌||◌, List, [], ◌∷◌, ◌++◌, flat_map, length, replicate, sum_by, nat_le, nat_lt, ◌==◌, if◌then◌else◌}
+use Rattle.std.specs.List.{range_with_len}
+use Rattle.qx_fields.specs.declared.order.Order.{Order}
+use Rattle.qx_fields.specs.Number.{digits}
+use Rattle.qx_geom.specs.declared.area.Which.{Which}
+use Rattle.qx_geom.specs.declared.area.Which.TheVariants.{First, Second}
+use Rattle.qx_geom.specs.declared.geometry.Geometry.{Geometry}
+use Rattle.qx_geom.specs.Lists.{each_below}
+use Rattle.qx_geom.specs.Pointer.{per_block}
+use Rattle.qx_geom.specs.Layout.{first_block, system_word_of}
+use Rattle.qx_nodes.specs.BlockMap.{BlockMap}
+
+-- ---- the root directory
+
+-- its block, the first behind both halves
+abbrev pub top_block : Geometry → ℕ
+top_block g = 2 * g.half
+
+-- its inode as 128 bytes: size, owner and group 0, four times the moment, the mode of a directory that Mkdir makes, one pointer, levels 0, status 1
+unfoldable pub top_inode_bytes : Order → ℕ → ℕ → ℕ → List ℕ
+top_inode_bytes order size block moment =
+    digits order 8 size ++ replicate 8 0
+    ++ digits order 4 moment ++ digits order 4 moment ++ digits order 4 moment ++ digits order 4 moment
+    ++ digits order 2 0x41ED ++ replicate 2 0
+    ++ digits order 4 block ++ replicate 60 255
+    ++ 0 ∷ 1 ∷ replicate 26 0
+
+-- a row with a short name as 32 bytes
+abbrev pub row_bytes : Order → ℕ → List ℕ → List ℕ
+row_bytes order inode name = digits order 4 inode ++ length name ∷ [] ++ name ++ replicate (27 - length name) 0
+
+-- the bytes of its block: the rows `.` and `..`, and unused records
+unfoldable pub top_directory_bytes : Order → ℕ → List ℕ
+top_directory_bytes order blocksize = row_bytes order 1 (46 ∷ []) ++ row_bytes order 1 (46 ∷ 46 ∷ []) ++ replicate (blocksize - 64) 0
+
+-- ---- the bitmap
+
+-- block b is held, or is no block
+abbrev pub is_taken : Geometry → ℕ → Bool
+is_taken g b = nat_le b (top_block g) || nat_le g.num_blocks b
+
+-- the byte whose bits these tests give, the lowest first
+abbrev pub byte_of_bits : (ℕ → Bool) → ℕ
+byte_of_bits test = sum_by (λ j. if test j then 2 ^ j else 0) (range_with_len 0 8)
+
+-- byte k of the bitmap, to the end of its last leaf
+unfoldable pub bitmap_byte : Geometry → ℕ → ℕ
+bitmap_byte g k = byte_of_bits (λ j. is_taken g (8 * k + j))
+
+-- leaf i of the bitmap
+unfoldable pub bitmap_leaf_bytes : Geometry → ℕ → List ℕ
+bitmap_leaf_bytes g i = each_below g.blocksize (λ k. bitmap_byte g (i * g.blocksize + k))
+
+-- ---- a half
+
+-- a pointer block of an area's Bitmap or Inode tree
+unfoldable pub pointer_block_bytes : Geometry → Order → Which → Bool → ℕ → List ℕ
+pointer_block_bytes g order which bitmap b = flat_map (λ w. digits order 4 (system_word_of g which bitmap b w)) (range_with_len 0 (per_block g.blocksize))
+
+-- leaf i of the Inode tree, where inode 1 alone is live
+unfoldable pub inode_leaf_bytes : Geometry → Order → ℕ → ℕ → List ℕ
+inode_leaf_bytes g order moment i =
+    if i == 0 then top_inode_bytes order g.blocksize (top_block g) moment ++ replicate (g.blocksize - 128) 0 else replicate g.blocksize 0
+
+-- block r of an area's half: bitmap leaves, bitmap pointer blocks, inode leaves, inode pointer blocks
+abbrev pub half_block_bytes : Geometry → Order → ℕ → Which → ℕ → List ℕ
+half_block_bytes g order moment which r =
+    if nat_lt r g.bitmap_leaves then bitmap_leaf_bytes g r
+    else if nat_lt r (g.bitmap_leaves + g.bitmap_pointers) then pointer_block_bytes g order which true (first_block g which + r)
+    else if nat_lt r (g.bitmap_leaves + g.bitmap_pointers + g.inode_leaves) then inode_leaf_bytes g order moment (r - (g.bitmap_leaves + g.bitmap_pointers))
+    else pointer_block_bytes g order which false (first_block g which + r)
+
+-- block b of those that the maker writes
+unfoldable pub made_block_bytes : Geometry → Order → ℕ → ℕ → List ℕ
+made_block_bytes g order moment b =
+    if nat_lt b g.half then half_block_bytes g order moment First b
+    else if nat_lt b (top_block g) then half_block_bytes g order moment Second (b - g.half)
+    else top_directory_bytes order g.blocksize
+
+-- blocks are those of a new volume: both halves and the root directory
+pub record AreMade (g : Geometry) (order : Order) (moment : ℕ) (m : BlockMap) : Type 0 where
+  pub order_is : m.order ≡ order
+  pub size : m.size ≡ g.blocksize
+  pub count : m.count ≡ g.num_blocks
+  pub bytes : (b : ℕ) → b ≤ top_block g → m.bytes b ≡ made_block_bytes g order moment b

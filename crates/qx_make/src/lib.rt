@@ -1,0 +1,15 @@
+//! The maker: an empty volume on a device, whatever the device held before.
+//!
+//! Stands on `qx_super` for superblocks and `qx_geom` for the layout, and on `qx_view` for what its contract says; `qx_top` stands on it.
+//! Its contract: `make`.
+//! It keeps no state and takes no memory.
+#![tactic(auto)]
+
+ghost use Rattle.std.specs.Prelude.{◌≡◌, ℕ};
+ghost use Rattle.qx_geom.specs.declared.geometry.Geometry.{Geometry};
+ghost use Rattle.qx_make.specs.Blocks.{top_block};
+
+/// Nothing.
+pub fn nothing()
+    ensures { (g : Geometry) → top_block g ≡ top_block g }
+{}
