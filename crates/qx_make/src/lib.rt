@@ -9,6 +9,10 @@ ghost use Rattle.std.specs.Prelude.{◌≡◌, ℕ};
 ghost use Rattle.qx_geom.specs.declared.geometry.Geometry.{Geometry};
 ghost use Rattle.qx_make.specs.Blocks.{top_block};
 
+mod laws;
+
+pub use laws::{the_blocks_by_the_tables, the_blocks_of_a_small_volume};
+
 /// Nothing.
 pub fn nothing()
     ensures { (g : Geometry) → top_block g ≡ top_block g }

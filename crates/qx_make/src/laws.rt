@@ -1,0 +1,40 @@
+//! Laws of a new volume, and rows of what the maker writes.
+ghost use Rattle.std.specs.Prelude.{◌≡◌, [], ◌∷◌, ◌++◌, replicate, slice_range};
+ghost use Rattle.qx_fields.specs.declared.order.Order.TheVariants as orders;
+ghost use Rattle.qx_geom.specs.Layout.{numbers_of};
+ghost use Rattle.qx_view.specs.Examples.{made_block};
+ghost use Rattle.qx_make.specs.Blocks.{made_block_bytes};
+
+/// The blocks of a new volume of 65536 bytes with 16 inodes are those that were written by hand for the checker.
+pub fn the_blocks_of_a_small_volume()
+    ensures first_bitmap { made_block_bytes (numbers_of 65536 512 16) orders.Little 0 0 ≡ made_block 0 }
+    ensures first_inodes { made_block_bytes (numbers_of 65536 512 16) orders.Little 0 1 ≡ made_block 1 }
+    ensures further { made_block_bytes (numbers_of 65536 512 16) orders.Little 0 2 ≡ made_block 2 }
+    ensures third { made_block_bytes (numbers_of 65536 512 16) orders.Little 0 3 ≡ made_block 3 }
+    ensures last_of_the_first { made_block_bytes (numbers_of 65536 512 16) orders.Little 0 4 ≡ made_block 4 }
+    ensures second_bitmap { made_block_bytes (numbers_of 65536 512 16) orders.Little 0 5 ≡ made_block 5 }
+    ensures second_inodes { made_block_bytes (numbers_of 65536 512 16) orders.Little 0 6 ≡ made_block 6 }
+    ensures further_of_the_second { made_block_bytes (numbers_of 65536 512 16) orders.Little 0 7 ≡ made_block 7 }
+    ensures third_of_the_second { made_block_bytes (numbers_of 65536 512 16) orders.Little 0 8 ≡ made_block 8 }
+    ensures last_of_the_second { made_block_bytes (numbers_of 65536 512 16) orders.Little 0 9 ≡ made_block 9 }
+    ensures top { made_block_bytes (numbers_of 65536 512 16) orders.Little 0 10 ≡ made_block 10 }
+{}
+
+/// Bytes that a script computed from the format's tables: 252 blocks of 4096 bytes in big order with 256 inodes, and an Inode tree of 17 leaves below a pointer block.
+pub fn the_blocks_by_the_tables()
+    ensures bitmap { slice_range (made_block_bytes (numbers_of 1048576 4096 256) orders.Big 0x01020304 0) 0 8 ≡ 255 ∷ 255 ∷ 7 ∷ 0 ∷ 0 ∷ 0 ∷ 0 ∷ 0 ∷ [] }
+    ensures bitmap_end { slice_range (made_block_bytes (numbers_of 1048576 4096 256) orders.Big 0x01020304 0) 28 36 ≡ 0 ∷ 0 ∷ 0 ∷ 240 ∷ 255 ∷ 255 ∷ 255 ∷ 255 ∷ [] }
+    ensures top_inode { slice_range (made_block_bytes (numbers_of 1048576 4096 256) orders.Big 0x01020304 1) 0 128 ≡ replicate 6 0 ++ 16 ∷ [] ++ replicate 9 0 ++ 1 ∷ 2 ∷ 3 ∷ 4 ∷ 1 ∷ 2 ∷ 3 ∷ 4 ∷ 1 ∷ 2 ∷ 3 ∷ 4 ∷ 1 ∷ 2 ∷ 3 ∷ 4 ∷ 65 ∷ 237 ∷ 0 ∷ 0 ∷ 0 ∷ 0 ∷ 0 ∷ 18 ∷ [] ++ replicate 60 255 ++ 0 ∷ 1 ∷ [] ++ replicate 26 0 }
+    ensures second_inode { slice_range (made_block_bytes (numbers_of 1048576 4096 256) orders.Big 0x01020304 1) 128 136 ≡ replicate 8 0 }
+    ensures further_inodes { slice_range (made_block_bytes (numbers_of 1048576 4096 256) orders.Big 0x01020304 2) 0 8 ≡ replicate 8 0 }
+    ensures other_half { slice_range (made_block_bytes (numbers_of 1048576 4096 256) orders.Big 0x01020304 10) 0 40 ≡ replicate 6 0 ++ 16 ∷ [] ++ replicate 9 0 ++ 1 ∷ 2 ∷ 3 ∷ 4 ∷ 1 ∷ 2 ∷ 3 ∷ 4 ∷ 1 ∷ 2 ∷ 3 ∷ 4 ∷ 1 ∷ 2 ∷ 3 ∷ 4 ∷ 65 ∷ 237 ∷ 0 ∷ 0 ∷ 0 ∷ 0 ∷ 0 ∷ 18 ∷ [] }
+    ensures top { slice_range (made_block_bytes (numbers_of 1048576 4096 256) orders.Big 0x01020304 18) 0 72 ≡ 0 ∷ 0 ∷ 0 ∷ 1 ∷ 1 ∷ 46 ∷ [] ++ replicate 29 0 ++ 1 ∷ 2 ∷ 46 ∷ 46 ∷ [] ++ replicate 33 0 }
+    ensures pointers { slice_range (made_block_bytes (numbers_of 65536 512 68) orders.Little 0 18) 0 8 ≡ 1 ∷ 0 ∷ 0 ∷ 0 ∷ 2 ∷ 0 ∷ 0 ∷ 0 ∷ [] }
+    ensures last_pointers { slice_range (made_block_bytes (numbers_of 65536 512 68) orders.Little 0 18) 60 76 ≡ 16 ∷ 0 ∷ 0 ∷ 0 ∷ 17 ∷ 0 ∷ 0 ∷ 0 ∷ [] ++ replicate 8 255 }
+    ensures unused_pointers { slice_range (made_block_bytes (numbers_of 65536 512 68) orders.Little 0 18) 504 512 ≡ replicate 8 255 }
+    ensures other_pointers { slice_range (made_block_bytes (numbers_of 65536 512 68) orders.Little 0 37) 0 8 ≡ 20 ∷ 0 ∷ 0 ∷ 0 ∷ 21 ∷ 0 ∷ 0 ∷ 0 ∷ [] }
+    ensures other_last_pointers { slice_range (made_block_bytes (numbers_of 65536 512 68) orders.Little 0 37) 60 76 ≡ 35 ∷ 0 ∷ 0 ∷ 0 ∷ 36 ∷ 0 ∷ 0 ∷ 0 ∷ [] ++ replicate 8 255 }
+    ensures leaf_before_pointers { slice_range (made_block_bytes (numbers_of 65536 512 68) orders.Little 0 17) 0 8 ≡ replicate 8 0 }
+    ensures top_behind_pointers { slice_range (made_block_bytes (numbers_of 65536 512 68) orders.Little 0 38) 0 8 ≡ 1 ∷ 0 ∷ 0 ∷ 0 ∷ 1 ∷ 46 ∷ 0 ∷ 0 ∷ [] }
+    ensures bitmap_with_pointers { slice_range (made_block_bytes (numbers_of 65536 512 68) orders.Little 0 0) 0 16 ≡ 255 ∷ 255 ∷ 255 ∷ 255 ∷ 127 ∷ [] ++ replicate 7 0 ++ 255 ∷ 255 ∷ 255 ∷ 255 ∷ [] }
+{}
