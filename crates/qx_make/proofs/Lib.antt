@@ -1,0 +1,4 @@
+pub mod NumbersInRows
+pub mod NewBlocks
+pub mod NewWords
+pub mod NewVisits
