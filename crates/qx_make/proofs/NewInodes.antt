@@ -1,0 +1,180 @@
+-- The inodes of a new volume: the root directory's, and zeros.
+use Rattle.std.proofs.Common.{◌≡◌, ℕ, inl, inr, zero, suc, ◌+◌, ◌-◌, ◌*◌, ◌/◌, ◌%◌, ◌≤◌, ◌<◌, ◌^◌, List, [], ◌∷◌, ◌++◌, true, false, refl, ap, sym, ◌∙◌, arith, length, take, drop}
+use Rattle.std.specs.Prelude.{replicate, slice_range, ◌==◌}
+use Rattle.std.proofs.Math.Nat.{add-mul, div-mul-le_self, one-mul, zero-div, zero-mod, zero-mul}
+use Rattle.std.proofs.lemmas.Nat.{div-add-mod', le-div}
+use Rattle.std.proofs.lemmas.Bool.{and_parts, and_from, cases_eq, cond-true, cond-false, eq-eqb, ne_eqb}
+use Rattle.std.proofs.lemmas.List.{take_at, drop_at, drop-drop, drop-replicate}
+use Rattle.qx_fields.specs.declared.order.Order.{Order}
+use Rattle.qx_fields.specs.declared.order.Order.TheVariants.{Little, Big}
+use Rattle.qx_fields.specs.Number.{digits, field, fields}
+use Rattle.qx_fields.proofs.Fields.{number_digits}
+use Rattle.qx_geom.specs.declared.area.Which.{Which}
+use Rattle.qx_geom.specs.declared.geometry.Geometry.{Geometry}
+use Rattle.qx_geom.specs.declared.root.Root.{Root}
+use Rattle.qx_geom.specs.Layout.{system_root_of}
+use Rattle.qx_geom.specs.Pointer.{absent, ceil_div}
+use Rattle.qx_geom.proofs.BlockSizes.{BlockSizeBounds, block_size-bounds}
+use Rattle.qx_geom.proofs.VolumeNumbers.{IsGeometry-keeps}
+use Rattle.qx_nodes.specs.BlockMap.{BlockMap}
+use Rattle.qx_nodes.specs.Content.{leaf_bytes}
+use Rattle.qx_records.specs.declared.inode.Inode.{Inode}
+use Rattle.qx_records.specs.InodeRecord.{inode_in}
+use Rattle.qx_view.specs.Images.{inode_bytes, inode_of}
+use Rattle.qx_view.specs.Sound.{are_zero}
+use Rattle.qx_make.specs.Blocks.{inode_leaf_bytes, top_block, top_inode_bytes}
+use Rattle.qx_make.proofs.NewBlocks.{NewBlocks, blocks, inodes_from, leaves_filled}
+use Rattle.qx_make.proofs.NewLeaves.{inode_leaf_is}
+
+-- ---- the root directory's inode
+
+-- a node of one leaf
+abbrev pub one_leaf : ℕ → ℕ → Root
+one_leaf size block = record { size = size; pointers = block ∷ replicate 15 absent; levels = 0 }
+
+-- a directory's inode, as the maker writes it
+abbrev pub top_inode : ℕ → ℕ → ℕ → Inode
+top_inode size block moment = record {
+  root = one_leaf size block;
+  uid = 0;
+  gid = 0;
+  ftime = moment;
+  mtime = moment;
+  atime = moment;
+  ctime = moment;
+  mode = 0x41ED;
+  ext_mode = 0;
+  status = 1;
+}
+
+-- its bytes say it
+top_inode_in : (order : Order) (size block moment : ℕ) → size < 256 ^ 8 → block < 256 ^ 4 → moment < 256 ^ 4 → inode_in order (top_inode_bytes order size block moment) ≡ top_inode size block moment
+unfolding inode_in top_inode_bytes field fields
+top_inode_in Little size block moment s b t =
+    let long : field Little 8 (digits Little 8 size) 0 ≡ size = number_digits Little 8 size [] s in
+    let here : field Little 4 (digits Little 4 block) 0 ≡ block = number_digits Little 4 block [] b in
+    let when : field Little 4 (digits Little 4 moment) 0 ≡ moment = number_digits Little 4 moment [] t in
+    λ i. record {
+      root = record { size = long i; pointers = here i ∷ replicate 15 absent; levels = 0 };
+      uid = 0;
+      gid = 0;
+      ftime = when i;
+      mtime = when i;
+      atime = when i;
+      ctime = when i;
+      mode = 0x41ED;
+      ext_mode = 0;
+      status = 1;
+    }
+top_inode_in Big size block moment s b t =
+    let long : field Big 8 (digits Big 8 size) 0 ≡ size = number_digits Big 8 size [] s in
+    let here : field Big 4 (digits Big 4 block) 0 ≡ block = number_digits Big 4 block [] b in
+    let when : field Big 4 (digits Big 4 moment) 0 ≡ moment = number_digits Big 4 moment [] t in
+    λ i. record {
+      root = record { size = long i; pointers = here i ∷ replicate 15 absent; levels = 0 };
+      uid = 0;
+      gid = 0;
+      ftime = when i;
+      mtime = when i;
+      atime = when i;
+      ctime = when i;
+      mode = 0x41ED;
+      ext_mode = 0;
+      status = 1;
+    }
+
+-- they are 128
+top_inode_bytes-length : (order : Order) (size block moment : ℕ) → length (top_inode_bytes order size block moment) ≡ 128
+unfolding top_inode_bytes
+top_inode_bytes-length Little size block moment = refl
+top_inode_bytes-length Big size block moment = refl
+
+-- ---- zeros
+
+-- a row of zeros is one
+pub are_zero-replicate : (n : ℕ) → are_zero (replicate n 0) ≡ true
+are_zero-replicate zero = refl
+are_zero-replicate (suc n) = are_zero-replicate n
+
+-- the first of some zeros are zeros
+are_zero-take : (n : ℕ) (xs : List ℕ) → are_zero xs ≡ true → are_zero (take n xs) ≡ true
+are_zero-take zero xs e = refl
+are_zero-take (suc n) [] e = refl
+are_zero-take (suc n) (x ∷ xs) e = let both : ((x == 0) ≡ true) × (are_zero xs ≡ true) = and_parts (x == 0) (are_zero xs) e in and_from (x == 0) (are_zero (take n xs)) both.0 (are_zero-take n xs both.1)
+
+-- behind the first bytes come zeros
+pub drop_zeros : (xs : List ℕ) (n o count : ℕ) → length xs ≡ n → n ≤ o → drop o (xs ++ replicate count 0) ≡ replicate (count - (o - n)) 0
+drop_zeros xs n o count long behind =
+    let parts : o ≡ n + (o - n) = omega arith in
+    ap (λ z. drop z (xs ++ replicate count 0)) parts ∙ sym (drop-drop (o - n) n (xs ++ replicate count 0)) ∙ ap (λ (l : List ℕ). drop (o - n) l) (drop_at xs (replicate count 0) n long) ∙ drop-replicate (o - n) count 0
+
+-- behind inode 1 the leaves of the Inode tree are zeros
+pub zero_behind : (g : Geometry) (order : Order) (moment i o : ℕ) → 128 ≤ i * g.blocksize + o → are_zero (drop o (inode_leaf_bytes g order moment i)) ≡ true
+unfolding inode_leaf_bytes
+zero_behind g order moment i o behind =
+    let top : List ℕ = top_inode_bytes order g.blocksize (top_block g) moment in
+    elim (cases_eq i 0) [
+      | inl first ↦
+          let none : i * g.blocksize ≡ 0 = ap (λ z. z * g.blocksize) first ∙ zero-mul g.blocksize in
+          ap (λ (l : List ℕ). are_zero (drop o l)) (cond-true (i == 0) (top ++ replicate (g.blocksize - 128) 0) (replicate g.blocksize 0) (eq-eqb i 0 first))
+          ∙ ap are_zero (drop_zeros top 128 o (g.blocksize - 128) (top_inode_bytes-length order g.blocksize (top_block g) moment) (omega (arith, none, behind)))
+          ∙ are_zero-replicate (g.blocksize - 128 - (o - 128))
+      | inr later ↦
+          ap (λ (l : List ℕ). are_zero (drop o l)) (cond-false (i == 0) (top ++ replicate (g.blocksize - 128) 0) (replicate g.blocksize 0) (ne_eqb i 0 later))
+          ∙ ap are_zero (drop-replicate o g.blocksize 0)
+          ∙ are_zero-replicate (g.blocksize - o)
+    ]
+
+-- a part that begins below a size is one of those that the size fills
+part_below : (k a b : ℕ) → 0 < b → k < a → k / b < ceil_div a b
+part_below k a b pos below =
+    let more : (k / b + 1) * b ≤ a + b - 1 = rw (add-mul (k / b) 1 b, one-mul b) (omega (arith, div-mul-le_self k b)) in
+    omega (arith, le-div (k / b + 1) (a + b - 1) b pos more)
+
+module _ (v : NewBlocks) (which : Which) where
+  abbrev g : Geometry
+  g = v.geometry
+
+  abbrev m : BlockMap
+  m = blocks v
+
+  abbrev inodes : Root
+  inodes = system_root_of g which false
+
+  bounds : BlockSizeBounds g.blocksize
+  bounds = block_size-bounds g.blocksize (IsGeometry-keeps g v.whole).block_size
+
+  -- the leaf of a byte below the Inode tree's size is one of the tree
+  leaf_below : (k : ℕ) → k < g.num_inodes * 128 → k / g.blocksize < g.inode_leaves
+  leaf_below k low = let b = bounds in let filled = leaves_filled g false v.whole in omega (arith, part_below k (g.num_inodes * 128) g.blocksize (omega arith) low)
+
+  -- so is the first
+  pub first_leaf : 0 < g.inode_leaves
+  first_leaf = let many = inodes_from g v.whole in omega (arith, leaf_below 0 (omega arith), zero-div g.blocksize)
+
+  -- the bytes of inode 1
+  pub top_is : inode_bytes m inodes 1 ≡ top_inode_bytes v.order g.blocksize (top_block g) v.moment
+  unfolding inode_leaf_bytes
+  top_is =
+      let top : List ℕ = top_inode_bytes v.order g.blocksize (top_block g) v.moment in
+      ap (λ k. slice_range (leaf_bytes m inodes k) (0 % g.blocksize) (0 % g.blocksize + 128)) (zero-div g.blocksize)
+      ∙ ap (λ k. slice_range (leaf_bytes m inodes 0) k (k + 128)) (zero-mod g.blocksize)
+      ∙ ap (λ (l : List ℕ). slice_range l 0 (0 + 128)) (inode_leaf_is v which 0 first_leaf)
+      ∙ take_at top (replicate (g.blocksize - 128) 0) 128 (top_inode_bytes-length v.order g.blocksize (top_block g) v.moment)
+
+  -- inode 1 is the root directory's
+  pub top_inode_is : inode_of m inodes 1 ≡ top_inode g.blocksize (top_block g) v.moment
+  top_inode_is =
+      let b = bounds in let n = IsGeometry-keeps g v.whole in let now = v.now in
+      ap (λ (l : List ℕ). inode_in v.order l) top_is ∙ top_inode_in v.order g.blocksize (top_block g) v.moment (omega arith) (omega arith) (omega arith)
+
+  -- the other inodes are zeros
+  pub other_is_zero : (k : ℕ) → 1 ≤ k → k < g.num_inodes → are_zero (inode_bytes m inodes (suc k)) ≡ true
+  other_is_zero k above low =
+      let b = bounds in
+      let at : ℕ = (suc k - 1) * 128 in
+      let here : at ≡ k * 128 = omega arith in
+      let whole : at / g.blocksize * g.blocksize + at % g.blocksize ≡ at = div-add-mod' at g.blocksize in
+      ap (λ (l : List ℕ). are_zero (slice_range l (at % g.blocksize) (at % g.blocksize + 128))) (inode_leaf_is v which (at / g.blocksize) (leaf_below at (omega arith)))
+      ∙ are_zero-take (at % g.blocksize + 128 - at % g.blocksize) (drop (at % g.blocksize) (inode_leaf_bytes g v.order v.moment (at / g.blocksize)))
+      (zero_behind g v.order v.moment (at / g.blocksize) (at % g.blocksize) (omega (arith, whole, here, above)))
