@@ -5,3 +5,4 @@ pub mod NewVisits
 pub mod NewLeaves
 pub mod NewInodes
 pub mod NewDirectory
+pub mod EmptyTrees
