@@ -6,3 +6,5 @@ pub mod NewLeaves
 pub mod NewInodes
 pub mod NewDirectory
 pub mod EmptyTrees
+pub mod NewPositions
+pub mod NewTrees

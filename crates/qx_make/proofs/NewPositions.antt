@@ -1,0 +1,111 @@
+-- Where the blocks of a new volume's tree stand: in the two trees of a half, and behind both halves.
+use Rattle.std.proofs.Common.{◌≡◌, ℕ, inl, inr, zero, suc, ◌+◌, ◌≤◌, ◌<◌, [], ◌∷◌, Bool, true, false, refl, ap, sym, ◌∙◌, subst, arith, Some}
+use Rattle.std.specs.Prelude.{Contains, slice_get}
+use Rattle.qx_geom.specs.declared.area.Which.{Which}
+use Rattle.qx_geom.specs.declared.geometry.Geometry.{Geometry}
+use Rattle.qx_geom.specs.declared.root.Root.{Root}
+use Rattle.qx_geom.specs.Layout.{IsTreeBlock, system_root_of, tree_base, tree_blocks, tree_leaves}
+use Rattle.qx_geom.proofs.LevelCounts.{level-within}
+use Rattle.qx_geom.proofs.Members.{Contains-cases}
+use Rattle.qx_geom.proofs.VolumeNumbers.{IsGeometry-keeps, first_block-le, tree-within}
+use Rattle.qx_nodes.specs.BlockMap.{BlockMap}
+use Rattle.qx_nodes.specs.Visits.{Visit, visits_of}
+use Rattle.qx_model.specs.EmptyTree.{empty_tree}
+use Rattle.qx_model.specs.Tree.{Tree}
+use Rattle.qx_view.specs.Images.{Roots, inode_of}
+use Rattle.qx_view.specs.Reading.{IsApart, IsUndamaged, OfBeside, OfInode, OfInodes, OfLongfile, Owner, StandsAt}
+use Rattle.qx_make.specs.Blocks.{top_block}
+use Rattle.qx_make.specs.NewVolume.{empty_root, new_roots}
+use Rattle.qx_make.proofs.EmptyTrees.{only_entry}
+use Rattle.qx_make.proofs.NewBlocks.{NewBlocks, blocks}
+use Rattle.qx_make.proofs.NewDirectory.{top_low, top_node, top_visits}
+use Rattle.qx_make.proofs.NewInodes.{top_inode_is}
+use Rattle.qx_make.proofs.NewVisits.{StandsInTree, one_place, system_met}
+
+-- the tree whose blocks a new volume has
+abbrev pub new_tree : NewBlocks → Tree
+new_tree v = empty_tree v.geometry.blocksize v.geometry.num_inodes v.moment
+
+-- the directory's one leaf
+abbrev pub top_visit : Geometry → Visit
+top_visit g = record { level = 0; index = 0; block = top_block g }
+
+module _ (v : NewBlocks) (which : Which) where
+  abbrev g : Geometry
+  g = v.geometry
+
+  abbrev m : BlockMap
+  m = blocks v
+
+  abbrev r : Roots
+  r = new_roots g which
+
+  -- where a block of an owner's node stands
+  data Stands : Owner → Visit → Type 0 where
+    InInodes : {u : Visit} → StandsInTree v which false u → Stands OfInodes u
+    InBitmap : {u : Visit} → StandsInTree v which true u → Stands (OfBeside 0) u
+    InTop : Stands (OfInode 1) (top_visit g)
+
+  -- a root node beside the two is the Bitmap's
+  one_beside : (k : ℕ) (node : Root) → slice_get r.beside k ≡ Some node → (k ≡ 0) × (node ≡ system_root_of g which true)
+  one_beside zero node e = (refl, cc)
+  one_beside (suc k) node e = absurd (cc)
+
+  -- each block of the tree stands at one of those
+  stands : (o : Owner) (u : Visit) → StandsAt m r (new_tree v) o u → Stands o u
+  stands OfInodes u (node, is, met) = InInodes (system_met v which false u (subst (λ x. Contains (visits_of m x) u) is met))
+  stands OfLongfile u (node, is, met) = let none : Contains (visits_of m empty_root) u = subst (λ x. Contains (visits_of m x) u) is met in absurd (omega (arith, none.1))
+  stands (OfBeside k) u (node, is, met) =
+      let one : (k ≡ 0) × (node ≡ system_root_of g which true) = one_beside k node is in
+      subst (λ j. Stands (OfBeside j) u) (sym one.0) (InBitmap (system_met v which true u (subst (λ x. Contains (visits_of m x) u) one.1 met)))
+  stands (OfInode n) u (node, has, met) =
+      let only = only_entry g.blocksize g.num_inodes v.moment n has.0 has.1 in
+      let is : node ≡ top_node v = has.3 ∙ ap (λ k. (inode_of m r.inodes k).root) only.0 ∙ ap (λ i. i.root) (top_inode_is v which) in
+      let there : Contains (top_visit g ∷ []) u = subst (λ l. Contains l u) (top_visits v) (subst (λ x. Contains (visits_of m x) u) is met) in
+      elim (Contains-cases (top_visit g) u [] there) [
+        | inl here ↦ subst (λ x. Stands (OfInode n) x) here (subst (λ k. Stands (OfInode k) (top_visit g)) (sym only.0) InTop)
+        | inr none ↦ absurd (omega (arith, none.1))
+      ]
+
+  -- a block of a tree stands among the tree's blocks
+  in_tree : (bitmap : Bool) (u : Visit) → StandsInTree v which bitmap u → (tree_base g which bitmap ≤ u.block) × (u.block < tree_base g which bitmap + tree_blocks g.blocksize (tree_leaves g bitmap))
+  in_tree bitmap u s = (omega (arith, s.place), omega (arith, s.place, s.index_there, level-within g.blocksize (tree_leaves g bitmap) (IsGeometry-keeps g v.whole).block_size u.level s.level_there))
+
+  -- equal blocks of a tree stand at one position
+  same_visit : (bitmap : Bool) (a b : Visit) → StandsInTree v which bitmap a → StandsInTree v which bitmap b → a.block ≡ b.block → a ≡ b
+  same_visit bitmap a b s t e =
+      let one : (a.level ≡ b.level) × (a.index ≡ b.index) = one_place v which bitmap a.level b.level a.index b.index b.block (subst (λ x. IsTreeBlock g which bitmap a.level a.index x) e s) t in
+      λ i. record { level = one.0 i; index = one.1 i; block = e i }
+
+  -- the Bitmap tree comes before the Inode tree, and both before the directory's block
+  bitmap_before : (u : Visit) → StandsInTree v which true u → u.block < tree_base g which false
+  bitmap_before u s = let n = IsGeometry-keeps g v.whole in omega (arith, (in_tree true u s).1)
+
+  before_top : (bitmap : Bool) (u : Visit) → StandsInTree v which bitmap u → u.block < top_block g
+  before_top bitmap u s = omega (arith, (in_tree bitmap u s).1, tree-within g which bitmap v.whole, first_block-le g which)
+
+  -- they are blocks of the volume
+  low : (o : Owner) (u : Visit) → Stands o u → u.block < g.num_blocks
+  low o u (InInodes s) = omega (arith, before_top false u s, top_low v)
+  low o u (InBitmap s) = omega (arith, before_top true u s, top_low v)
+  low o u InTop = top_low v
+
+  -- and none stands at two positions
+  one_position : (o p : Owner) (a b : Visit) → Stands o a → Stands p b → a.block ≡ b.block → (o ≡ p) × (a ≡ b)
+  one_position o p a b (InInodes s) (InInodes t) e = (refl, same_visit false a b s t e)
+  one_position o p a b (InInodes s) (InBitmap t) e = absurd (omega (arith, (in_tree false a s).0, bitmap_before b t, e))
+  one_position o p a b (InInodes s) InTop e = absurd (omega (arith, before_top false a s, e))
+  one_position o p a b (InBitmap s) (InInodes t) e = absurd (omega (arith, (in_tree false b t).0, bitmap_before a s, e))
+  one_position o p a b (InBitmap s) (InBitmap t) e = (refl, same_visit true a b s t e)
+  one_position o p a b (InBitmap s) InTop e = absurd (omega (arith, before_top true a s, e))
+  one_position o p a b InTop (InInodes t) e = absurd (omega (arith, before_top false b t, e))
+  one_position o p a b InTop (InBitmap t) e = absurd (omega (arith, before_top true b t, e))
+  one_position o p a b InTop InTop e = (refl, refl)
+
+  -- so no pointer of the tree is damaged
+  pub new_undamaged : IsUndamaged m r (new_tree v)
+  new_undamaged o u s = low o u (stands o u s)
+
+  -- and no block stands at two positions
+  pub new_apart : IsApart m r (new_tree v)
+  new_apart o p a b s t e = one_position o p a b (stands o a s) (stands p b t) e
