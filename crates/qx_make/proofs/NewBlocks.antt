@@ -12,7 +12,7 @@ use Rattle.qx_geom.specs.Layout.{IsGeometry, IsPointerBlock, first_block, geomet
 use Rattle.qx_geom.specs.Pointer.{ceil_div}
 use Rattle.qx_geom.proofs.VolumeNumbers.{IsGeometry-keeps, VolumeNumbers, geometry_of-numbers}
 use Rattle.qx_nodes.specs.BlockMap.{BlockMap}
-use Rattle.qx_make.specs.Blocks.{bitmap_leaf_bytes, half_block_bytes, inode_leaf_bytes, made_block_bytes, pointer_block_bytes, top_block, top_directory_bytes}
+use Rattle.qx_make.specs.Blocks.{AreMade, bitmap_leaf_bytes, half_block_bytes, inode_leaf_bytes, made_block_bytes, pointer_block_bytes, top_block, top_directory_bytes}
 
 -- the blocks of a volume, of which those that the maker writes are as it wrote them at a moment
 pub record NewBlocks : Type 0 where
@@ -27,6 +27,18 @@ pub record NewBlocks : Type 0 where
 -- those blocks
 abbrev pub blocks : NewBlocks → BlockMap
 blocks v = record { order = v.order; size = v.geometry.blocksize; count = v.geometry.num_blocks; bytes = v.bytes }
+
+-- made blocks are such blocks
+abbrev pub new_blocks : (g : Geometry) (order : Order) (moment : ℕ) (m : BlockMap) → IsGeometry g → moment < 2 ^ 32 → AreMade g order moment m → NewBlocks
+new_blocks g order moment m whole now made = record { geometry = g; order = order; moment = moment; bytes = m.bytes; whole = whole; now = now; made = made.bytes }
+
+-- and no others
+pub blocks_are : (g : Geometry) (order : Order) (moment : ℕ) (m : BlockMap) (whole : IsGeometry g) (now : moment < 2 ^ 32) (made : AreMade g order moment m) → blocks (new_blocks g order moment m whole now made) ≡ m
+blocks_are g order moment m whole now made =
+    let order_is : order ≡ m.order = sym made.order_is in
+    let size : g.blocksize ≡ m.size = sym made.size in
+    let count : g.num_blocks ≡ m.count = sym made.count in
+    λ i. record { order = order_is i; size = size i; count = count i; bytes = m.bytes }
 
 -- ---- the numbers
 

@@ -1,9 +1,22 @@
 //! Laws of a new volume, and rows of what the maker writes.
-ghost use Rattle.std.specs.Prelude.{◌≡◌, [], ◌∷◌, ◌++◌, replicate, slice_range};
+ghost use Rattle.std.specs.Prelude.{◌≡◌, ◌<◌, ◌^◌, ℕ, [], ◌∷◌, ◌++◌, replicate, slice_range};
+ghost use Rattle.qx_fields.specs.declared.order.Order.{Order};
 ghost use Rattle.qx_fields.specs.declared.order.Order.TheVariants as orders;
-ghost use Rattle.qx_geom.specs.Layout.{numbers_of};
+ghost use Rattle.qx_geom.specs.declared.area.Which.{Which};
+ghost use Rattle.qx_geom.specs.declared.geometry.Geometry.{Geometry};
+ghost use Rattle.qx_geom.specs.Layout.{IsGeometry, numbers_of};
+ghost use Rattle.qx_nodes.specs.BlockMap.{BlockMap};
+ghost use Rattle.qx_model.specs.EmptyTree.{empty_tree};
 ghost use Rattle.qx_view.specs.Examples.{made_block};
-ghost use Rattle.qx_make.specs.Blocks.{made_block_bytes};
+ghost use Rattle.qx_view.specs.Reading.{IsTreeOf};
+ghost use Rattle.qx_make.specs.Blocks.{AreMade, made_block_bytes};
+ghost use Rattle.qx_make.specs.NewVolume.{new_roots};
+
+/// What the maker writes means the empty tree, from the roots of either half.
+pub fn a_new_volume_has_the_empty_tree()
+    ensures { (m : BlockMap) (g : Geometry) (order : Order) (moment : ℕ) (which : Which) → IsGeometry g → moment < 2 ^ 32 → AreMade g order moment m
+        → IsTreeOf m (new_roots g which) (empty_tree g.blocksize g.num_inodes moment) }
+{}
 
 /// The blocks of a new volume of 65536 bytes with 16 inodes are those that were written by hand for the checker.
 pub fn the_blocks_of_a_small_volume()
