@@ -8,3 +8,5 @@ pub mod NewDirectory
 pub mod EmptyTrees
 pub mod NewPositions
 pub mod NewTrees
+pub mod NewBitmap
+pub mod NewWalk
