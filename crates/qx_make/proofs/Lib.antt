@@ -10,3 +10,4 @@ pub mod NewPositions
 pub mod NewTrees
 pub mod NewBitmap
 pub mod NewWalk
+pub mod NewReasons
