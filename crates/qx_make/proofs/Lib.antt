@@ -11,3 +11,4 @@ pub mod NewTrees
 pub mod NewBitmap
 pub mod NewWalk
 pub mod NewReasons
+pub mod NewSoundness

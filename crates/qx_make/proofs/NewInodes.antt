@@ -145,7 +145,7 @@ module _ (v : NewBlocks) (which : Which) where
   bounds = block_size-bounds g.blocksize (IsGeometry-keeps g v.whole).block_size
 
   -- the leaf of a byte below the Inode tree's size is one of the tree
-  leaf_below : (k : ℕ) → k < g.num_inodes * 128 → k / g.blocksize < g.inode_leaves
+  pub leaf_below : (k : ℕ) → k < g.num_inodes * 128 → k / g.blocksize < g.inode_leaves
   leaf_below k low = let b = bounds in let filled = leaves_filled g false v.whole in omega (arith, part_below k (g.num_inodes * 128) g.blocksize (omega arith) low)
 
   -- so is the first

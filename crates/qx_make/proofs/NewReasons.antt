@@ -107,7 +107,7 @@ module _ (v : NewBlocks) where
   no_strays =
       let past : nat_le (ceil_div g.blocksize g.blocksize) 0 ≡ false = ap (λ k. nat_le k 0) one in
       let test : (not (top_block g == absent) && nat_le (ceil_div g.blocksize g.blocksize) 0) ≡ false = and_right (not (top_block g == absent)) _ past in
-      rw test refl
+      ap (λ b. b || false) test
 
   -- no pointer block is bare
   no_bare : has_bare_block m (top_node v) ≡ false

@@ -1,13 +1,16 @@
 -- The superblocks of a new volume, and where its tree begins.
-use Rattle.std.specs.Prelude.{ℕ, ◌-◌, [], ◌∷◌, replicate, true, false}
+use Rattle.std.specs.Prelude.{◌≡◌, ℕ, ◌-◌, ◌^◌, ◌<◌, true, false, List, [], ◌∷◌, length, replicate, Some, Ok}
 use Rattle.qx_fields.specs.declared.order.Order.{Order}
 use Rattle.qx_geom.specs.declared.area.Which.{Which}
 use Rattle.qx_geom.specs.declared.geometry.Geometry.{Geometry}
 use Rattle.qx_geom.specs.declared.root.Root.{Root}
-use Rattle.qx_geom.specs.Layout.{system_root_of, user_blocks}
+use Rattle.qx_geom.specs.Layout.{geometry_of, system_root_of, user_blocks}
 use Rattle.qx_geom.specs.Pointer.{absent}
+use Rattle.qx_super.specs.declared.choice.Pick.TheVariants as picks
+use Rattle.qx_super.specs.Active.{active_area, active_super}
 use Rattle.qx_super.specs.Superblock.{Superblock}
-use Rattle.qx_view.specs.Images.{Roots}
+use Rattle.qx_view.specs.Images.{Roots, image_blocks}
+use Rattle.qx_make.specs.Blocks.{AreMade}
 
 -- a root node of nothing
 abbrev pub empty_root : Root
@@ -36,3 +39,11 @@ made_superblock g order moment serial which = record {
 -- where the tree of an area's half begins
 abbrev pub new_roots : Geometry → Which → Roots
 new_roots g which = record { inodes = system_root_of g which false; longfile = empty_root; beside = system_root_of g which true ∷ [] }
+
+-- an image has a new volume: its blocks are those that the maker writes at a moment, and this area is active with the maker's superblock
+pub record HasNewVolume (img : List ℕ) (g : Geometry) (order : Order) (moment serial : ℕ) (which : Which) : Type 0 where
+  pub numbers : geometry_of (length img) g.blocksize g.num_inodes ≡ Ok g
+  pub now : moment < 2 ^ 32
+  pub active : active_area img ≡ picks.Active which
+  pub superblock : active_super img ≡ Some (made_superblock g order moment serial which)
+  pub made : AreMade g order moment (image_blocks img (made_superblock g order moment serial which))

@@ -1,21 +1,34 @@
 //! Laws of a new volume, and rows of what the maker writes.
-ghost use Rattle.std.specs.Prelude.{◌≡◌, ◌<◌, ◌^◌, ℕ, [], ◌∷◌, ◌++◌, replicate, slice_range};
+ghost use Rattle.std.specs.Prelude.{◌≡◌, ◌<◌, ◌^◌, ℕ, List, None, [], ◌∷◌, ◌++◌, replicate, slice_range};
 ghost use Rattle.qx_fields.specs.declared.order.Order.{Order};
 ghost use Rattle.qx_fields.specs.declared.order.Order.TheVariants as orders;
 ghost use Rattle.qx_geom.specs.declared.area.Which.{Which};
 ghost use Rattle.qx_geom.specs.declared.geometry.Geometry.{Geometry};
-ghost use Rattle.qx_geom.specs.Layout.{IsGeometry, numbers_of};
+ghost use Rattle.qx_geom.specs.Layout.{IsGeometry, geometry_of, numbers_of};
 ghost use Rattle.qx_nodes.specs.BlockMap.{BlockMap};
 ghost use Rattle.qx_model.specs.EmptyTree.{empty_tree};
 ghost use Rattle.qx_view.specs.Examples.{made_block};
 ghost use Rattle.qx_view.specs.Reading.{IsTreeOf};
+ghost use Rattle.qx_view.specs.Sound.{IsSound, last_finding, reason_of};
 ghost use Rattle.qx_make.specs.Blocks.{AreMade, made_block_bytes};
-ghost use Rattle.qx_make.specs.NewVolume.{new_roots};
+ghost use Rattle.qx_make.specs.NewVolume.{HasNewVolume, made_superblock, new_roots};
 
 /// What the maker writes means the empty tree, from the roots of either half.
 pub fn a_new_volume_has_the_empty_tree()
     ensures { (m : BlockMap) (g : Geometry) (order : Order) (moment : ℕ) (which : Which) → IsGeometry g → moment < 2 ^ 32 → AreMade g order moment m
         → IsTreeOf m (new_roots g which) (empty_tree g.blocksize g.num_inodes moment) }
+{}
+
+/// For the superblock that the maker writes into an area no reason applies and nothing is found last, and the image is sound with the empty tree.
+pub fn a_new_volume_is_sound()
+    ensures reason { (m : BlockMap) (g : Geometry) (order : Order) (moment serial len : ℕ) (which : Which) → geometry_of len g.blocksize g.num_inodes ≡ Ok g
+        → moment < 2 ^ 32 → AreMade g order moment m
+        → reason_of m (made_superblock g order moment serial which) which len ≡ None }
+    ensures last { (m : BlockMap) (g : Geometry) (order : Order) (moment serial len : ℕ) (which : Which) → geometry_of len g.blocksize g.num_inodes ≡ Ok g
+        → moment < 2 ^ 32 → AreMade g order moment m
+        → last_finding m (made_superblock g order moment serial which) len ≡ None }
+    ensures sound { (img : List ℕ) (g : Geometry) (order : Order) (moment serial : ℕ) (which : Which) → HasNewVolume img g order moment serial which
+        → IsSound img (empty_tree g.blocksize g.num_inodes moment) }
 {}
 
 /// The blocks of a new volume of 65536 bytes with 16 inodes are those that were written by hand for the checker.

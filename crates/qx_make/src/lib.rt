@@ -12,7 +12,8 @@ ghost use Rattle.qx_make.specs.Blocks.{top_block};
 mod laws;
 
 pub use laws::{
-    a_new_volume_has_the_empty_tree, the_blocks_by_the_tables, the_blocks_of_a_small_volume,
+    a_new_volume_has_the_empty_tree, a_new_volume_is_sound, the_blocks_by_the_tables,
+    the_blocks_of_a_small_volume,
 };
 
 /// Nothing.
