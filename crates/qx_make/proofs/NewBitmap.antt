@@ -47,15 +47,18 @@ octet_bit a b c d e f g h la lb lc ld le lf lg lh = (omega arith, omega arith, o
 bit_is : (test : ℕ → Bool) (j : ℕ) → j < 8 → bit_at (byte_of_bits test) j ≡ bit_of (test j)
 bit_is test j low = ap (λ x. bit_at x j) (byte_is test) ∙ go j low
   where
+    -- the bit that a test gives
     c : ℕ → ℕ
     c k = bit_of (test k)
 
+    -- all eight bits
     all : (octet (c 0) (c 1) (c 2) (c 3) (c 4) (c 5) (c 6) (c 7) / 1 % 2 ≡ c 0) × (octet (c 0) (c 1) (c 2) (c 3) (c 4) (c 5) (c 6) (c 7) / 2 % 2 ≡ c 1)
         × (octet (c 0) (c 1) (c 2) (c 3) (c 4) (c 5) (c 6) (c 7) / 4 % 2 ≡ c 2) × (octet (c 0) (c 1) (c 2) (c 3) (c 4) (c 5) (c 6) (c 7) / 8 % 2 ≡ c 3)
         × (octet (c 0) (c 1) (c 2) (c 3) (c 4) (c 5) (c 6) (c 7) / 16 % 2 ≡ c 4) × (octet (c 0) (c 1) (c 2) (c 3) (c 4) (c 5) (c 6) (c 7) / 32 % 2 ≡ c 5)
         × (octet (c 0) (c 1) (c 2) (c 3) (c 4) (c 5) (c 6) (c 7) / 64 % 2 ≡ c 6) × (octet (c 0) (c 1) (c 2) (c 3) (c 4) (c 5) (c 6) (c 7) / 128 % 2 ≡ c 7)
     all = octet_bit (c 0) (c 1) (c 2) (c 3) (c 4) (c 5) (c 6) (c 7) (bit_low (test 0)) (bit_low (test 1)) (bit_low (test 2)) (bit_low (test 3)) (bit_low (test 4)) (bit_low (test 5)) (bit_low (test 6)) (bit_low (test 7))
 
+    -- the one in question
     go : (j : ℕ) → j < 8 → bit_at (octet (c 0) (c 1) (c 2) (c 3) (c 4) (c 5) (c 6) (c 7)) j ≡ c j
     go zero low = all.0
     go (suc zero) low = all.1
@@ -68,6 +71,7 @@ bit_is test j low = ap (λ x. bit_at x j) (byte_is test) ∙ go j low
     go (suc (suc (suc (suc (suc (suc (suc (suc j)))))))) low = absurd (omega arith)
 
 module _ (v : NewBlocks) (which : Which) where
+  -- the volume's numbers
   abbrev g : Geometry
   g = v.geometry
 

@@ -47,14 +47,17 @@ pub inodes_from : (g : Geometry) → IsGeometry g → 16 ≤ g.num_inodes
 unfolding geometry_of
 inodes_from g e = elim (cases_lt g.num_inodes 16) [ inl few ↦ absurd (refused few) | inr enough ↦ enough ]
   where
+    -- the test of the inodes comes second
     refusal : (sized : Bool) (few : Bool) (large rest : Bool) (x y : Result Geometry GeomFault) → sized ≡ true → few ≡ true → (if not sized then x else if few || large then Err Inodes else y) ≡ Err Inodes
     refusal true true large rest x y t f = refl
     refusal true false large rest x y t f = absurd (cc)
     refusal false few large rest x y t f = absurd (cc)
 
+    -- so few inodes are refused
     fault : g.num_inodes < 16 → geometry_of g.len4 g.blocksize g.num_inodes ≡ Err Inodes
     fault few = refusal (is_block_size g.blocksize) (nat_lt g.num_inodes 16) (nat_lt 1048576 g.num_inodes) true (Err BlockSize) _ (IsGeometry-keeps g e).block_size (lt-ltb g.num_inodes 16 few)
 
+    -- which a geometry isn't
     refused : g.num_inodes < 16 → ⊥
     refused few = let one : geometry_of g.len4 g.blocksize g.num_inodes ≡ Err Inodes = fault few in let other : geometry_of g.len4 g.blocksize g.num_inodes ≡ Ok g = e in cc
 
@@ -64,9 +67,11 @@ leaves_filled g true e = subst (λ (h : Geometry). ceil_div (tree_size h true) h
 leaves_filled g false e = subst (λ (h : Geometry). ceil_div (tree_size h false) h.blocksize ≡ tree_leaves h false) (geometry_of-numbers g.len4 g.blocksize g.num_inodes g e) refl
 
 module _ (v : NewBlocks) where
+  -- the volume's numbers
   abbrev g : Geometry
   g = v.geometry
 
+  -- what is known of the numbers
   numbers : VolumeNumbers g
   numbers = IsGeometry-keeps g v.whole
 

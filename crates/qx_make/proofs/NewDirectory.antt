@@ -86,9 +86,11 @@ none_named f [] each = refl
 none_named f (x ∷ xs) each = ap (λ o. cons_option o (filter_map f xs)) (each x (Contains-head x xs)) ∙ none_named f xs (λ y c. each y (Contains-cons x y xs c))
 
 module _ (v : NewBlocks) where
+  -- the volume's numbers
   abbrev g : Geometry
   g = v.geometry
 
+  -- its blocks
   abbrev m : BlockMap
   m = blocks v
 
@@ -96,6 +98,7 @@ module _ (v : NewBlocks) where
   abbrev pub top_node : Root
   top_node = one_leaf g.blocksize (top_block g)
 
+  -- the bounds of its block size
   bounds : BlockSizeBounds g.blocksize
   bounds = block_size-bounds g.blocksize (IsGeometry-keeps g v.whole).block_size
 
@@ -130,6 +133,7 @@ module _ (v : NewBlocks) where
   pub raw_first : raw_of m top_node 0 ≡ Short 1 (46 ∷ [])
   raw_first = let b = bounds in raw_is 0 (omega arith) ∙ first_record v.order g.blocksize
 
+  -- and the second
   pub raw_second : raw_of m top_node 1 ≡ Short 1 (46 ∷ 46 ∷ [])
   raw_second = let b = bounds in raw_is 1 (omega arith) ∙ second_record v.order g.blocksize
 

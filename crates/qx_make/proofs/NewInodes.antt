@@ -132,15 +132,19 @@ part_below k a b pos below =
     omega (arith, le-div (k / b + 1) (a + b - 1) b pos more)
 
 module _ (v : NewBlocks) (which : Which) where
+  -- the volume's numbers
   abbrev g : Geometry
   g = v.geometry
 
+  -- its blocks
   abbrev m : BlockMap
   m = blocks v
 
+  -- its Inode root node
   abbrev inodes : Root
   inodes = system_root_of g which false
 
+  -- the bounds of its block size
   bounds : BlockSizeBounds g.blocksize
   bounds = block_size-bounds g.blocksize (IsGeometry-keeps g v.whole).block_size
 

@@ -16,12 +16,14 @@ use Rattle.qx_view.proofs.SystemTrees.{IsInTree, tree_met}
 use Rattle.qx_make.specs.Blocks.{bitmap_leaf_bytes, inode_leaf_bytes}
 use Rattle.qx_make.proofs.NewBlocks.{NewBlocks, bitmap_bytes, blocks, inode_leaf, leaves_filled}
 use Rattle.qx_make.proofs.NewVisits.{StandsInTree, one_place, system_met}
-use Rattle.qx_make.proofs.NewWords.{new_tree}
+use Rattle.qx_make.proofs.NewWords.{system_tree_right}
 
 module _ (v : NewBlocks) (which : Which) where
+  -- the volume's numbers
   abbrev g : Geometry
   g = v.geometry
 
+  -- its blocks
   abbrev m : BlockMap
   m = blocks v
 
@@ -51,7 +53,7 @@ module _ (v : NewBlocks) (which : Which) where
       let leaves : ℕ = tree_leaves g bitmap in
       let inside : IsInTree g.blocksize base leaves (base + i) = record { from = omega arith; to = omega (arith, low, tree_blocks-is g.blocksize leaves n.block_size) } in
       let met : (u : Visit) × Contains (visits_of m (system_root_of g which bitmap)) u × (u.block ≡ base + i)
-      = tree_met m base leaves (tree_size g bitmap) n.block_size (new_tree v which bitmap) (tree_leaves-le g bitmap v.whole) (tree-below g which bitmap v.whole) (tree-counted bitmap) (leaves_filled g bitmap v.whole) (base + i) inside in
+      = tree_met m base leaves (tree_size g bitmap) n.block_size (system_tree_right v which bitmap) (tree_leaves-le g bitmap v.whole) (tree-below g which bitmap v.whole) (tree-counted bitmap) (leaves_filled g bitmap v.whole) (base + i) inside in
       let u : Visit = met.0 in
       let at : StandsInTree v which bitmap u = system_met v which bitmap u met.1 in
       let same : (u.level ≡ 0) × (u.index ≡ i) = one_place v which bitmap u.level 0 u.index i (base + i) (subst (λ b. IsTreeBlock g which bitmap u.level u.index b) met.2 at) (leaf_place bitmap i low) in

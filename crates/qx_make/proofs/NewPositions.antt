@@ -31,19 +31,25 @@ abbrev pub top_visit : Geometry → Visit
 top_visit g = record { level = 0; index = 0; block = top_block g }
 
 module _ (v : NewBlocks) (which : Which) where
+  -- the volume's numbers
   abbrev g : Geometry
   g = v.geometry
 
+  -- its blocks
   abbrev m : BlockMap
   m = blocks v
 
+  -- where its tree begins
   abbrev r : Roots
   r = new_roots g which
 
   -- where a block of an owner's node stands
   data Stands : Owner → Visit → Type 0 where
+    -- a block of the Inode tree
     InInodes : {u : Visit} → StandsInTree v which false u → Stands OfInodes u
+    -- of the Bitmap tree
     InBitmap : {u : Visit} → StandsInTree v which true u → Stands (OfBeside 0) u
+    -- or the directory's
     InTop : Stands (OfInode 1) (top_visit g)
 
   -- a root node beside the two is the Bitmap's
@@ -77,18 +83,19 @@ module _ (v : NewBlocks) (which : Which) where
       let one : (a.level ≡ b.level) × (a.index ≡ b.index) = one_place v which bitmap a.level b.level a.index b.index b.block (subst (λ x. IsTreeBlock g which bitmap a.level a.index x) e s) t in
       λ i. record { level = one.0 i; index = one.1 i; block = e i }
 
-  -- the Bitmap tree comes before the Inode tree, and both before the directory's block
+  -- the Bitmap tree comes before the Inode tree
   bitmap_before : (u : Visit) → StandsInTree v which true u → u.block < tree_base g which false
   bitmap_before u s = let n = IsGeometry-keeps g v.whole in omega (arith, (in_tree true u s).1)
 
+  -- what stands in a tree comes before the directory's block
   before_top : (bitmap : Bool) (u : Visit) → StandsInTree v which bitmap u → u.block < top_block g
   before_top bitmap u s = omega (arith, (in_tree bitmap u s).1, tree-within g which bitmap v.whole, first_block-le g which)
 
   -- they are blocks of the volume
-  low : (o : Owner) (u : Visit) → Stands o u → u.block < g.num_blocks
-  low o u (InInodes s) = omega (arith, before_top false u s, top_low v)
-  low o u (InBitmap s) = omega (arith, before_top true u s, top_low v)
-  low o u InTop = top_low v
+  block_low : (o : Owner) (u : Visit) → Stands o u → u.block < g.num_blocks
+  block_low o u (InInodes s) = omega (arith, before_top false u s, top_low v)
+  block_low o u (InBitmap s) = omega (arith, before_top true u s, top_low v)
+  block_low o u InTop = top_low v
 
   -- and none stands at two positions
   one_position : (o p : Owner) (a b : Visit) → Stands o a → Stands p b → a.block ≡ b.block → (o ≡ p) × (a ≡ b)
@@ -104,7 +111,7 @@ module _ (v : NewBlocks) (which : Which) where
 
   -- so no pointer of the tree is damaged
   pub new_undamaged : IsUndamaged m r (new_tree v)
-  new_undamaged o u s = low o u (stands o u s)
+  new_undamaged o u s = block_low o u (stands o u s)
 
   -- and no block stands at two positions
   pub new_apart : IsApart m r (new_tree v)

@@ -34,7 +34,7 @@ use Rattle.qx_make.proofs.NewDirectory.{ceil_one, raw_first, raw_second, top_nod
 use Rattle.qx_make.proofs.NewInodes.{other_is_zero, top_inode_is, top_is}
 use Rattle.qx_make.proofs.NewTrees.{places_are}
 use Rattle.qx_make.proofs.NewWalk.{is_directory, is_no_special, root_is}
-use Rattle.qx_make.proofs.NewWords.{new_tree}
+use Rattle.qx_make.proofs.NewWords.{system_tree_right}
 
 -- ---- tests that no number passes
 
@@ -73,16 +73,19 @@ unnamed_zero Little size block moment = refl
 unnamed_zero Big size block moment = refl
 
 module _ (v : NewBlocks) where
+  -- the volume's numbers
   abbrev g : Geometry
   g = v.geometry
 
+  -- its blocks
   abbrev m : BlockMap
   m = blocks v
 
+  -- the bounds of its block size
   bounds : BlockSizeBounds g.blocksize
   bounds = block_size-bounds g.blocksize (IsGeometry-keeps g v.whole).block_size
 
-  -- one level reaches what no level does
+  -- so few leaves need no level
   no_levels : (n : ℕ) → n ≤ 16 → levels_for g.blocksize n ≡ 0
   no_levels n few =
       let one : 0 < per_block g.blocksize ^ 0 = power_pos g.blocksize 0 (IsGeometry-keeps g v.whole).block_size in
@@ -90,8 +93,8 @@ module _ (v : NewBlocks) where
       omega arith
 
   -- a block is one leaf
-  one : ceil_div g.blocksize g.blocksize ≡ 1
-  one = let b = bounds in ceil_one g.blocksize (omega arith)
+  one_leaf_fills : ceil_div g.blocksize g.blocksize ≡ 1
+  one_leaf_fills = let b = bounds in ceil_one g.blocksize (omega arith)
 
   -- ---- nodes
 
@@ -102,10 +105,10 @@ module _ (v : NewBlocks) where
       let few : leaves_below m empty_root ≤ 16 = omega (arith, div_below (0 + g.blocksize - 1) g.blocksize 1 (omega arith) (omega arith)) in
       or_from (not (0 == levels_for g.blocksize (leaves_below m empty_root))) _ (ap (λ l. not (0 == l)) (no_levels (leaves_below m empty_root) few)) refl
 
-  -- so is the directory's node: no pointer lies past its size
+  -- no pointer of the directory's node lies past its size
   no_strays : has_strays m (top_node v) ≡ false
   no_strays =
-      let past : nat_le (ceil_div g.blocksize g.blocksize) 0 ≡ false = ap (λ k. nat_le k 0) one in
+      let past : nat_le (ceil_div g.blocksize g.blocksize) 0 ≡ false = ap (λ k. nat_le k 0) one_leaf_fills in
       let test : (not (top_block g == absent) && nat_le (ceil_div g.blocksize g.blocksize) 0) ≡ false = and_right (not (top_block g == absent)) _ past in
       ap (λ b. b || false) test
 
@@ -115,8 +118,9 @@ module _ (v : NewBlocks) where
       ap (λ vs. list_any (λ u. not (has_leaf_below m vs u)) vs) (top_visits v)
       ∙ ap (λ q. not ((q == 0) || false) || false) (by_one 0 (per_block g.blocksize))
 
+  -- so the directory's node is written as this project does
   top_ours : is_foreign_node m (top_node v) ≡ false
-  top_ours = or_from (not (0 == levels_for g.blocksize (leaves_below m (top_node v)))) _ (ap (λ l. not (0 == l)) (no_levels (leaves_below m (top_node v)) (omega (arith, one)))) (or_from (has_strays m (top_node v)) _ no_strays no_bare)
+  top_ours = or_from (not (0 == levels_for g.blocksize (leaves_below m (top_node v)))) _ (ap (λ l. not (0 == l)) (no_levels (leaves_below m (top_node v)) (omega (arith, one_leaf_fills)))) (or_from (has_strays m (top_node v)) _ no_strays no_bare)
 
   -- and the directory has no hole
   directory_ours : is_foreign_directory m (top_node v) ≡ false
@@ -129,9 +133,11 @@ module _ (v : NewBlocks) where
       (or_from (not (g.blocksize % g.blocksize == 0)) _ whole (ap (λ k. not (k == g.blocksize / g.blocksize)) present ∙ ap (λ k. not (1 == k)) count))
 
   module _ (which : Which) where
+    -- where its tree begins
     abbrev r : Roots
     r = new_roots g which
 
+    -- its Bitmap root node
     abbrev bitmap : Root
     bitmap = system_root_of g which true
 
@@ -139,8 +145,9 @@ module _ (v : NewBlocks) where
 
     -- both halves are as they must be
     halves : (other : Which) → is_half m g other ≡ true
-    halves other = and_from _ _ (new_tree v other true) (new_tree v other false)
+    halves other = and_from _ _ (system_tree_right v other true) (system_tree_right v other false)
 
+    -- the root nodes are the half's, and both halves are as they must be
     pub roots_and_halves : (is_same_root bitmap bitmap && (is_same_root r.inodes r.inodes && (is_half m g First && is_half m g Second))) ≡ true
     roots_and_halves = and_from _ _ (same_root bitmap) (and_from _ _ (same_root r.inodes) (and_from _ _ (halves First) (halves Second)))
 

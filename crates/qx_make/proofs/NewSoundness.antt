@@ -27,15 +27,19 @@ use Rattle.qx_make.proofs.NewReasons.{behind_halves, bits_agree, dots_pass, firs
 use Rattle.qx_make.proofs.NewWalk.{outer_is, root_is, walked_is}
 
 module _ (v : NewBlocks) (which : Which) where
+  -- the volume's numbers
   abbrev g : Geometry
   g = v.geometry
 
+  -- its blocks
   abbrev m : BlockMap
   m = blocks v
 
+  -- where its tree begins
   abbrev r : Roots
   r = new_roots g which
 
+  -- its Bitmap root node
   abbrev bitmap : Root
   bitmap = system_root_of g which true
 

@@ -37,15 +37,19 @@ size_within : (a b : ℕ) → 0 < b → a ≤ ceil_div a b * b
 size_within a b pos = let less : a + b - 1 < (a + b - 1) / b * b + b = lt-div-mul-add {a = a + b - 1} {b = b} pos in omega arith
 
 module _ (v : NewBlocks) where
+  -- the volume's numbers
   abbrev g : Geometry
   g = v.geometry
 
+  -- its blocks
   abbrev m : BlockMap
   m = blocks v
 
+  -- what is known of the numbers
   numbers : VolumeNumbers g
   numbers = IsGeometry-keeps g v.whole
 
+  -- the bounds of its block size
   bounds : BlockSizeBounds g.blocksize
   bounds = block_size-bounds g.blocksize (numbers).block_size
 
@@ -89,6 +93,7 @@ module _ (v : NewBlocks) where
       cond-true (nat_lt (g.num_inodes * 128 / 128) (2 ^ 32)) (g.num_inodes * 128 / 128) (2 ^ 32 - 1) (lt-ltb (g.num_inodes * 128 / 128) (2 ^ 32) (omega arith)) ∙ count
 
   module _ (which : Which) where
+    -- where its tree begins
     abbrev r : Roots
     r = new_roots g which
 

@@ -32,12 +32,15 @@ one_place n which bitmap l k i j b s t = elim (cases_order l k) [
   ]
 ]
   where
+    -- the block size
     size : ℕ
     size = n.geometry.blocksize
 
+    -- the tree's leaves
     leaves : ℕ
     leaves = tree_leaves n.geometry bitmap
 
+    -- which is one of the four
     sized : is_block_size size ≡ true
     sized = (IsGeometry-keeps n.geometry n.whole).block_size
 
@@ -53,15 +56,19 @@ if_holds true x xs c = c
 if_holds false x xs c = absurd (omega (arith, c.1))
 
 module _ (n : NewBlocks) (which : Which) (bitmap : Bool) where
+  -- the volume's numbers
   abbrev g : Geometry
   g = n.geometry
 
+  -- its blocks
   abbrev m : BlockMap
   m = blocks n
 
+  -- where the tree begins
   abbrev base : ℕ
   base = tree_base g which bitmap
 
+  -- how many leaves it has
   abbrev leaves : ℕ
   leaves = tree_leaves g bitmap
 
@@ -69,6 +76,7 @@ module _ (n : NewBlocks) (which : Which) (bitmap : Bool) where
   pointed : (level index p : ℕ) → level ≤ levels_for g.blocksize leaves → p ≡ system_pointer g.blocksize base leaves level index → (p == absent) ≡ false → IsTreeBlock g which bitmap level index p
   pointed level index p up is there = go (nat_lt index (level_count g.blocksize leaves level)) refl is
     where
+      -- whether it is there or not
       go : (b : Bool) → nat_lt index (level_count g.blocksize leaves level) ≡ b → p ≡ (if b then base + below_level g.blocksize leaves level + index else absent) → IsTreeBlock g which bitmap level index p
       go true e is = record { level_there = up; index_there = ltb-true index (level_count g.blocksize leaves level) e; place = is }
       go false e is = let gone : (p == absent) ≡ true = eq-eqb p absent is in absurd (cc)

@@ -26,12 +26,15 @@ none_taken m r zero listed = refl
 none_taken m r (suc fuel) listed = refl
 
 module _ (v : NewBlocks) (which : Which) where
+  -- the volume's numbers
   abbrev g : Geometry
   g = v.geometry
 
+  -- its blocks
   abbrev m : BlockMap
   m = blocks v
 
+  -- where its tree begins
   abbrev r : Roots
   r = new_roots g which
 

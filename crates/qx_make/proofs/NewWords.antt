@@ -28,15 +28,19 @@ pub all_below : (p : ℕ → Bool) (n : ℕ) → ((k : ℕ) → k < n → p k �
 all_below p n each = all_range p 0 n (λ k low high. each k (omega arith))
 
 module _ (v : NewBlocks) (which : Which) (bitmap : Bool) where
+  -- the volume's numbers
   abbrev g : Geometry
   g = v.geometry
 
+  -- where the tree begins
   abbrev base : ℕ
   base = tree_base g which bitmap
 
+  -- how many leaves it has
   abbrev n : ℕ
   n = tree_leaves g bitmap
 
+  -- the block size is one of the four
   sized : is_block_size g.blocksize ≡ true
   sized = (IsGeometry-keeps g v.whole).block_size
 
@@ -74,8 +78,8 @@ module _ (v : NewBlocks) (which : Which) (bitmap : Bool) where
       ∙ ap (λ l. system_pointer g.blocksize base n l (j * per_block g.blocksize + w)) back
 
   -- so the tree is as the layout says
-  pub new_tree : is_system_tree (blocks v) base n ≡ true
-  new_tree =
+  pub system_tree_right : is_system_tree (blocks v) base n ≡ true
+  system_tree_right =
       all_below (λ k. list_all (λ j. has_system_words (blocks v) base n k j) (each_below (level_count g.blocksize n (suc k)) (λ j. j))) (levels_for g.blocksize n)
       (λ k up. all_below (λ j. has_system_words (blocks v) base n k j) (level_count g.blocksize n (suc k))
       (λ j within. all_below (λ w. word (blocks v) (system_pointer g.blocksize base n (suc k) j) w == system_pointer g.blocksize base n k (j * per_block g.blocksize + w)) (per_block g.blocksize)

@@ -3,11 +3,12 @@ ghost use Rattle.std.specs.Prelude.{◌≡◌, ◌<◌, ◌^◌, ℕ, List, None
 ghost use Rattle.qx_fields.specs.declared.order.Order.{Order};
 ghost use Rattle.qx_fields.specs.declared.order.Order.TheVariants as orders;
 ghost use Rattle.qx_geom.specs.declared.area.Which.{Which};
+ghost use Rattle.qx_geom.specs.declared.area.Which.TheVariants as areas;
 ghost use Rattle.qx_geom.specs.declared.geometry.Geometry.{Geometry};
 ghost use Rattle.qx_geom.specs.Layout.{IsGeometry, geometry_of, numbers_of};
 ghost use Rattle.qx_nodes.specs.BlockMap.{BlockMap};
 ghost use Rattle.qx_model.specs.EmptyTree.{empty_tree};
-ghost use Rattle.qx_view.specs.Examples.{made_block};
+ghost use Rattle.qx_view.specs.Examples.{empty_tree as tree_by_hand, made_blocks, made_super};
 ghost use Rattle.qx_view.specs.Reading.{IsTreeOf};
 ghost use Rattle.qx_view.specs.Sound.{IsSound, last_finding, reason_of};
 ghost use Rattle.qx_make.specs.Blocks.{AreMade, made_block_bytes};
@@ -31,19 +32,12 @@ pub fn a_new_volume_is_sound()
         → IsSound img (empty_tree g.blocksize g.num_inodes moment) }
 {}
 
-/// The blocks of a new volume of 65536 bytes with 16 inodes are those that were written by hand for the checker.
-pub fn the_blocks_of_a_small_volume()
-    ensures first_bitmap { made_block_bytes (numbers_of 65536 512 16) orders.Little 0 0 ≡ made_block 0 }
-    ensures first_inodes { made_block_bytes (numbers_of 65536 512 16) orders.Little 0 1 ≡ made_block 1 }
-    ensures further { made_block_bytes (numbers_of 65536 512 16) orders.Little 0 2 ≡ made_block 2 }
-    ensures third { made_block_bytes (numbers_of 65536 512 16) orders.Little 0 3 ≡ made_block 3 }
-    ensures last_of_the_first { made_block_bytes (numbers_of 65536 512 16) orders.Little 0 4 ≡ made_block 4 }
-    ensures second_bitmap { made_block_bytes (numbers_of 65536 512 16) orders.Little 0 5 ≡ made_block 5 }
-    ensures second_inodes { made_block_bytes (numbers_of 65536 512 16) orders.Little 0 6 ≡ made_block 6 }
-    ensures further_of_the_second { made_block_bytes (numbers_of 65536 512 16) orders.Little 0 7 ≡ made_block 7 }
-    ensures third_of_the_second { made_block_bytes (numbers_of 65536 512 16) orders.Little 0 8 ≡ made_block 8 }
-    ensures last_of_the_second { made_block_bytes (numbers_of 65536 512 16) orders.Little 0 9 ≡ made_block 9 }
-    ensures top { made_block_bytes (numbers_of 65536 512 16) orders.Little 0 10 ≡ made_block 10 }
+/// A volume of 65536 bytes with 16 inodes that was written by hand for the checker is one that the maker makes.
+pub fn the_volume_by_hand_is_a_new_one()
+    ensures geometry { IsGeometry (numbers_of 65536 512 16) }
+    ensures blocks { AreMade (numbers_of 65536 512 16) orders.Little 0 made_blocks }
+    ensures superblock { made_superblock (numbers_of 65536 512 16) orders.Little 1000 2 areas.Second ≡ made_super }
+    ensures tree { empty_tree 512 16 0 ≡ tree_by_hand }
 {}
 
 /// Bytes that a script computed from the format's tables: 252 blocks of 4096 bytes in big order with 256 inodes, and an Inode tree of 17 leaves below a pointer block.
