@@ -12,3 +12,4 @@ pub mod NewBitmap
 pub mod NewWalk
 pub mod NewReasons
 pub mod NewSoundness
+pub mod NewSupers

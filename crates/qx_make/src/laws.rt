@@ -1,13 +1,15 @@
 //! Laws of a new volume, and rows of what the maker writes.
-ghost use Rattle.std.specs.Prelude.{◌≡◌, ◌<◌, ◌^◌, ℕ, List, None, [], ◌∷◌, ◌++◌, replicate, slice_range};
+ghost use Rattle.std.specs.Prelude.{◌≡◌, ◌<◌, ◌^◌, ℕ, List, length, Some, None, [], ◌∷◌, ◌++◌, replicate, slice_range};
 ghost use Rattle.qx_fields.specs.declared.order.Order.{Order};
 ghost use Rattle.qx_fields.specs.declared.order.Order.TheVariants as orders;
 ghost use Rattle.qx_geom.specs.declared.area.Which.{Which};
 ghost use Rattle.qx_geom.specs.declared.area.Which.TheVariants as areas;
 ghost use Rattle.qx_geom.specs.declared.geometry.Geometry.{Geometry};
-ghost use Rattle.qx_geom.specs.Layout.{IsGeometry, geometry_of, numbers_of};
+ghost use Rattle.qx_geom.specs.Layout.{IsGeometry, area_place, geometry_of, numbers_of};
 ghost use Rattle.qx_nodes.specs.BlockMap.{BlockMap};
 ghost use Rattle.qx_model.specs.EmptyTree.{empty_tree};
+ghost use Rattle.qx_super.specs.declared.choice.Pick.TheVariants as picks;
+ghost use Rattle.qx_super.specs.Active.{active_area, active_super, area_at, first_super, second_super, valid_area};
 ghost use Rattle.qx_view.specs.Examples.{empty_tree as tree_by_hand, made_blocks, made_super};
 ghost use Rattle.qx_view.specs.Reading.{IsTreeOf};
 ghost use Rattle.qx_view.specs.Sound.{IsSound, last_finding, reason_of};
@@ -30,6 +32,16 @@ pub fn a_new_volume_is_sound()
         → last_finding m (made_superblock g order moment serial which) len ≡ None }
     ensures sound { (img : List ℕ) (g : Geometry) (order : Order) (moment serial : ℕ) (which : Which) → HasNewVolume img g order moment serial which
         → IsSound img (empty_tree g.blocksize g.num_inodes moment) }
+{}
+
+/// Where both areas hold the maker's superblocks the second is active, and where the first alone does the first is.
+pub fn the_last_superblock_of_a_new_volume_is_active()
+    ensures second { (img : List ℕ) (g : Geometry) (order : Order) (moment : ℕ) → first_super img ≡ Some (made_superblock g order moment 1 areas.First)
+        → valid_area (length img) (area_at img (area_place g areas.Second)) ≡ Some (made_superblock g order moment 2 areas.Second)
+        → (active_area img ≡ picks.Active areas.Second) × (active_super img ≡ Some (made_superblock g order moment 2 areas.Second)) }
+    ensures first { (img : List ℕ) (g : Geometry) (order : Order) (moment : ℕ) → first_super img ≡ Some (made_superblock g order moment 1 areas.First)
+        → second_super img ≡ None
+        → (active_area img ≡ picks.Active areas.First) × (active_super img ≡ Some (made_superblock g order moment 1 areas.First)) }
 {}
 
 /// A volume of 65536 bytes with 16 inodes that was written by hand for the checker is one that the maker makes.
