@@ -42,10 +42,6 @@ one_visit m size block there one =
     let test : ((block == absent) || nat_le (ceil_div size m.size) 0) ≡ false = or_from _ _ there (ap (λ k. nat_le k 0) one) in
     rw test refl
 
--- a node of nothing meets nothing
-pub no_visit : (m : BlockMap) → visits_of m empty_root ≡ []
-no_visit m = refl
-
 -- ---- records
 
 -- the first record is `.`
