@@ -1,3 +1,13 @@
+pub mod StageSteps
+pub mod ZeroedAreas
+pub mod AreaPuts
+pub mod PartsInOrder
+pub mod WholeBlocks
+pub mod BitmapBytes
+pub mod TopDirectory
+pub mod PiecesWritten
+pub mod MadeBlockLengths
+pub mod BlockPuts
 pub mod NumbersInRows
 pub mod NewBlocks
 pub mod NewWords

@@ -1,2 +1,5 @@
 pub mod Blocks
 pub mod NewVolume
+pub mod Superblocks
+pub mod Stages
+pub mod Cut

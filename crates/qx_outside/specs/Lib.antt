@@ -3,6 +3,7 @@ pub mod Trail
 pub mod Causes
 pub mod Calls
 pub mod Images
+pub mod Puts
 pub mod Moments
 pub mod Schedule
 pub mod Memory

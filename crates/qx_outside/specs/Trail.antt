@@ -78,6 +78,16 @@ device_bytes starting (deed ∷ before) = bytes_after deed (device_bytes startin
 abbrev pub bytes_of : History → List ℕ
 bytes_of h = device_bytes h.starting h.deeds
 
+-- the lengths that were asked for, the newest first
+abbrev pub lengths_asked : List Deed → List ℕ
+lengths_asked [] = []
+lengths_asked (sized len ok ∷ before) = len ∷ lengths_asked before
+lengths_asked (wrote at asked left ok ∷ before) = lengths_asked before
+lengths_asked (took taken ∷ before) = lengths_asked before
+lengths_asked (gave given ∷ before) = lengths_asked before
+lengths_asked (synced ok ∷ before) = lengths_asked before
+lengths_asked (told_moment moment ∷ before) = lengths_asked before
+
 -- ---- the console's bytes
 
 -- the input that an event took

@@ -21,5 +21,6 @@ pub use device::Dev;
 pub use event::{Attachment, Event, Failed};
 pub use laws::{
     a_settled_device_has_one_image, an_image_has_what_is_not_pending, the_device_is_an_image,
+    what_an_image_has_while_bytes_are_put,
 };
 pub use memory::MemHost;

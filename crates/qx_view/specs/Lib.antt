@@ -9,3 +9,4 @@ pub mod Sound
 pub mod Usage
 pub mod Examples
 pub mod SmallImage
+pub mod FalseSuperblocks

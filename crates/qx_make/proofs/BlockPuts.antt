@@ -1,0 +1,120 @@
+-- The blocks of a new volume are put piece after piece: what each call leaves.
+use Rattle.std.proofs.Common.{◌≡◌, ℕ, ◌+◌, ◌-◌, ◌*◌, ◌≤◌, ◌<◌, Bool, true, Result, Ok, IsErr, OnOk, Option, List, [], ◌∷◌, ◌++◌, length, refl, ap, sym, ◌∙◌, subst, arith}
+use Rattle.std.specs.Prelude.{IfSome, IsTrue}
+use Rattle.std.specs.List.{flat_map, range_with_len}
+use Rattle.std.proofs.Math.Nat.{mul-le-mul_right}
+use Rattle.qx_fields.specs.declared.order.Order.{Order}
+use Rattle.qx_geom.specs.declared.geometry.Geometry.{Geometry}
+use Rattle.qx_geom.specs.Layout.{IsGeometry}
+use Rattle.qx_geom.proofs.SystemBlocks.{area_place-second}
+use Rattle.qx_geom.proofs.VolumeNumbers.{IsGeometry-keeps}
+use Rattle.qx_outside.specs.Calls.{Did, LeavesRest, Syncs, Writes}
+use Rattle.qx_outside.specs.Puts.{HasPut, IsAtRest, IsPartOf, Put}
+use Rattle.qx_outside.specs.Ranges.{put_at}
+use Rattle.qx_outside.specs.Trail.{History, wrote, synced}
+use Rattle.qx_outside.proofs.PuttingMoments.{IsPartOf-taken, put_none}
+use Rattle.qx_outside.proofs.Throughout.{reaches_moves}
+use Rattle.qx_outside.proofs.ToldLengths.{told_after, told_weaker}
+use Rattle.qx_make.specs.Blocks.{made_block_bytes, top_block}
+use Rattle.qx_make.specs.Stages.{Passes, Performs, PutsAll, Stage, after_stage, all_block_bytes, blocks_stage}
+use Rattle.qx_make.proofs.MadeBlockLengths.{length-made_block}
+use Rattle.qx_make.proofs.PartsInOrder.{length-parts}
+use Rattle.qx_make.proofs.PiecesWritten.{parts_split, parts_within, put_next}
+use Rattle.qx_make.proofs.StageSteps.{HasBegun, begin_stage, end_stage, fail_to_put, fail_to_sync, none_of_err, put_in_stage}
+
+module _ (g : Geometry) (e : IsGeometry g) (order : Order) (moment : ℕ) where
+  -- so many blocks from one on
+  abbrev pub parts : ℕ → ℕ → List ℕ
+  parts first count = flat_map (made_block_bytes g order moment) (range_with_len first count)
+
+  pub length-made : (count first : ℕ) → length (parts first count) ≡ count * g.blocksize
+  length-made count first = length-parts (made_block_bytes g order moment) g.blocksize (length-made_block g e order moment) count first
+
+  -- the volume has room for them
+  blocks_room : (first count : ℕ) → first + count ≤ top_block g + 1 → 0x3000 + first * g.blocksize + count * g.blocksize ≤ g.len4
+  blocks_room first count within =
+      let v = IsGeometry-keeps g e in
+      let last = area_place-second g e in
+      let few : (first + count) * g.blocksize ≤ g.num_blocks * g.blocksize = mul-le-mul_right g.blocksize (let up : first + count ≤ g.num_blocks = omega (arith, within, v.room) in up) in
+      omega (arith, few, last)
+
+  -- so has the device, where its length is told
+  pub piece_told : (first count : ℕ) (piece : List ℕ) (before len : Option ℕ) → piece ≡ parts first count → first + count ≤ top_block g + 1 → (IfSome before (λ n. g.len4 ≤ n) → IfSome len (λ n. g.len4 ≤ n)) → IfSome before (λ n. g.len4 ≤ n)
+      → IfSome len (λ n. 0x3000 + first * g.blocksize + length piece ≤ n)
+  piece_told first count piece before len is within stays told =
+      told_weaker len (λ n. g.len4 ≤ n) (λ n. 0x3000 + first * g.blocksize + length piece ≤ n)
+      (λ n enough. omega (arith, blocks_room first count within, ap length is, length-made count first)) (stays told)
+
+  module _ (bytes : List ℕ) (long : g.len4 ≤ length bytes) where
+    -- the stage, and the bytes with so many blocks
+    abbrev stage : Stage
+    stage = blocks_stage g order moment bytes
+
+    abbrev pub so_far : ℕ → List ℕ
+    so_far count = put_at bytes 0x3000 (parts 0 count)
+
+    -- none of them
+    so_far-none : so_far 0 ≡ bytes
+    so_far-none = put_none bytes 0x3000
+
+    -- all of them
+    so_far-all : so_far (top_block g + 1) ≡ after_stage stage
+    unfolding all_block_bytes
+    so_far-all = refl
+
+    -- some more
+    so_far-more : (first count : ℕ) (piece : List ℕ) → piece ≡ parts first count → first + count ≤ top_block g + 1 → put_at (so_far first) (0x3000 + first * g.blocksize) piece ≡ so_far (first + count)
+    so_far-more first count piece is within =
+        ap (λ (l : List ℕ). put_at (so_far first) (0x3000 + first * g.blocksize) l) is
+        ∙ ap (λ (i : ℕ). put_at (so_far first) i (parts first count)) (let at : 0x3000 + first * g.blocksize ≡ 0x3000 + length (parts 0 first) = omega (arith, length-made first 0) in at)
+        ∙ put_next bytes (parts 0 first) (parts first count) 0x3000 (omega (arith, blocks_room first count within))
+        ∙ ap (λ (l : List ℕ). put_at bytes 0x3000 l) (ap (λ (x : ℕ). parts 0 first ++ parts x count) (let from : first ≡ 0 + first = omega arith in from) ∙ sym (parts_split (made_block_bytes g order moment) 0 first count))
+
+    -- a piece is a part of the stage
+    piece_part : (first count : ℕ) (piece : List ℕ) → piece ≡ parts first count → first + count ≤ top_block g + 1 → IsPartOf stage.puts (0x3000 + first * g.blocksize) piece
+    unfolding all_block_bytes
+    piece_part first count piece is within =
+        subst (λ (l : List ℕ). IsPartOf stage.puts (0x3000 + first * g.blocksize) l) (sym is)
+        (IsPartOf-taken stage.puts (record { at = 0x3000; bytes = all_block_bytes g order moment }) (first * g.blocksize) (parts first count) (0, omega arith, refl)
+        (let enough : (first + count) * g.blocksize ≤ (top_block g + 1) * g.blocksize = mul-le-mul_right g.blocksize within in
+        omega (arith, length-made count first, length-made (top_block g + 1) 0, enough))
+        (parts_within (made_block_bytes g order moment) g.blocksize (length-made_block g e order moment) first count (top_block g + 1) within))
+
+    module _ {D : Type 0} (tells : D → Bool) (history : D → History) where
+      pub no_piece : (a : D) → HasBegun tells history stage (so_far 0) a a
+      no_piece a = subst (λ (now : List ℕ). HasBegun tells history stage now a a) (sym so_far-none) (begin_stage tells history stage a)
+
+      pub one_piece : (first count : ℕ) (piece : List ℕ) (a b c : D) → piece ≡ parts first count → first + count ≤ top_block g + 1
+          → Did tells history (wrote (0x3000 + first * g.blocksize) piece piece true) b c → Writes tells history (0x3000 + first * g.blocksize) piece b c
+          → HasBegun tells history stage (so_far first) a b → HasBegun tells history stage (so_far (first + count)) a c
+      one_piece first count piece a b c is within did writes begun =
+          subst (λ (now : List ℕ). HasBegun tells history stage now a c) (so_far-more first count piece is within)
+          (put_in_stage tells history stage (0x3000 + first * g.blocksize) piece (so_far first) a b c (piece_part first count piece is within)
+          (omega (arith, blocks_room first count within, ap length is, length-made count first)) did writes begun)
+
+      module _ {T E : Type 0} where
+        pub piece_fails : (result : Result T E) (first count : ℕ) (piece : List ℕ) (a b c : D) → IsErr result → piece ≡ parts first count → first + count ≤ top_block g + 1
+            → Writes tells history (0x3000 + first * g.blocksize) piece b c → HasBegun tells history stage (so_far first) a b → PutsAll tells history stage result a c
+        piece_fails result first count piece a b c err is within writes begun =
+            let p = fail_to_put tells history stage result err (0x3000 + first * g.blocksize) piece (so_far first) a b c (piece_part first count piece is within)
+            (omega (arith, blocks_room first count within, ap length is, length-made count first)) writes begun in
+            record { reaches = p.reaches; ok = none_of_err tells history stage result _ err; now = none_of_err tells history stage result _ err; lengths = p.lengths }
+
+        pub pieces_done : (x : T) (first : ℕ) (a b : D) → first ≡ top_block g + 1 → HasBegun tells history stage (so_far first) a b → PutsAll {E = E} tells history stage (Ok x) a b
+        pieces_done x first a b all begun =
+            let whole : HasBegun tells history stage (after_stage stage) a b = subst (λ (now : List ℕ). HasBegun tells history stage now a b) so_far-all (subst (λ (n : ℕ). HasBegun tells history stage (so_far n) a b) all begun) in
+            record { reaches = reaches_moves tells history (IsAtRest bytes) (HasPut bytes stage.puts (after_stage stage)) (IsAtRest bytes) (Passes stage) a b whole.moves; ok = whole.moves; now = whole.bytes; lengths = whole.lengths }
+
+      -- the sync behind them
+      module _ {T E : Type 0} where
+        pub blocks_fail : (inner result : Result T E) (a b : D) → IsErr inner → IsErr result → PutsAll tells history stage inner a b → Performs tells history stage result a b
+        blocks_fail inner result a b broken err p = record { reaches = p.reaches; ok = none_of_err tells history stage result _ err; kept = none_of_err tells history stage result _ err; lengths = p.lengths }
+
+        begun_by : (x : T) (a b : D) → PutsAll {E = E} tells history stage (Ok x) a b → HasBegun tells history stage (after_stage stage) a b
+        begun_by x a b p = record { moves = p.ok; bytes = p.now; lengths = p.lengths }
+
+        pub blocks_sync_fails : (x : T) (result : Result T E) (a b c : D) → IsErr result → PutsAll {E = E} tells history stage (Ok x) a b → Syncs tells history b c → Performs tells history stage result a c
+        blocks_sync_fails x result a b c err p syncs = fail_to_sync tells history stage result err a b c syncs (begun_by x a b p)
+
+        pub blocks_done : (x y : T) (a b c : D) → PutsAll {E = E} tells history stage (Ok x) a b → Did tells history (synced true) b c → Syncs tells history b c → Performs {E = E} tells history stage (Ok y) a c
+        blocks_done x y a b c p did syncs = end_stage tells history stage y a b c did syncs (begun_by x a b p)

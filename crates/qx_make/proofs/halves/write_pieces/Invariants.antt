@@ -1,0 +1,22 @@
+use Rattle.std.proofs.Common.{◌≡◌, ℕ, ◌+◌, ◌-◌, ◌*◌, ◌≤◌, List, length}
+use Rattle.std.specs.List.{flat_map, range_with_len}
+use Rattle.qx_outside.specs.Calls.{LeavesRest}
+use Rattle.qx_outside.specs.Ranges.{put_at}
+use Rattle.qx_make.specs.Blocks.{made_block_bytes}
+use Rattle.qx_make.specs.Stages.{blocks_stage}
+use Rattle.qx_make.proofs.StageSteps.{HasBegun}
+use Rattle.qx_make.proofs.halves.write_pieces.Given as goal
+
+abbrev pub invariant-loop-first : goal.invariant-loop-first
+invariant-loop-first g l = record {
+  begun : (bytes : List ℕ) → l.volume.geometry.len4 ≤ length bytes
+      → HasBegun g.D.Dev.tells g.D.Dev.history (blocks_stage l.volume.geometry l.volume.order l.volume.moment bytes)
+      (put_at bytes 0x3000 (flat_map (made_block_bytes l.volume.geometry l.volume.order l.volume.moment) (range_with_len 0 l.first))) l.fn.host l.host;
+  others : LeavesRest g.D.Dev.extent g.D.Dev.attached g.D.Dev.dev_reads g.D.Dev.con_faults l.fn.host l.host;
+  later : g.D.Dev.dev_faults l.fn.host ≤ g.D.Dev.dev_faults l.host;
+  buffer : length l.buffer ≡ 65536;
+  within : l.first ≤ l.blocks;
+}
+
+abbrev pub decreases-loop-first : goal.decreases-loop-first
+decreases-loop-first g l = l.blocks - l.first

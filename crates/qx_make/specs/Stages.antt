@@ -1,0 +1,143 @@
+-- The maker's way: what it puts between one good sync and the next, and over which bytes.
+use Rattle.std.specs.Prelude.{ℕ, ◌≡◌, IsTrue, Bool, Result, OnOk, ◌+◌, ◌-◌, List, [], ◌∷◌, ◌++◌, flat_map, fold, length, min, replicate, Option, Some, None, Contains}
+use Rattle.std.specs.List.{range_with_len}
+use Rattle.qx_outside.specs.Moments.{Moves, Reaches}
+use Rattle.qx_outside.specs.Puts.{HasPut, IsAtRest, IsPutting, Put, PutsOrRests, with_puts}
+use Rattle.qx_outside.specs.Trail.{History, bytes_of, lengths_asked, resized}
+use Rattle.qx_fields.specs.declared.order.Order.{Order}
+use Rattle.qx_geom.specs.declared.area.Which.{Which}
+use Rattle.qx_geom.specs.declared.area.Which.TheVariants.{First, Second}
+use Rattle.qx_geom.specs.declared.geometry.Geometry.{Geometry}
+use Rattle.qx_geom.specs.Layout.{area_place}
+use Rattle.qx_super.specs.declared.choice.Pick.{Pick}
+use Rattle.qx_super.specs.declared.choice.Pick.TheVariants as picks
+use Rattle.qx_super.specs.Superblock.{Superblock, second_place_of}
+use Rattle.qx_super.specs.Active.{active_area, active_super}
+use Rattle.qx_make.specs.Blocks.{made_block_bytes, top_block}
+use Rattle.qx_make.specs.Superblocks.{made_super_bytes}
+
+-- what is put between two good syncs, over what the first of them kept
+pub record Stage : Type 0 where
+  pub kept : List ℕ
+  pub puts : List Put
+
+-- the bytes once all is put
+abbrev pub after_stage : Stage → List ℕ
+after_stage s = with_puts s.kept s.puts
+
+-- it is on its way, or done
+abbrev pub Passes : Stage → History → Type 0
+Passes s h = PutsOrRests s.kept s.puts (after_stage s) h
+
+-- over a device with the stage's bytes a call that is Ok leaves all put and kept; if it began at rest it passes the stage, whatever it answers; it asks for no length
+pub record Performs {D T E : Type 0} (tells : D → Bool) (history : D → History) (stage : Stage) (result : Result T E) (old new : D) : Type 0 where
+  pub reaches : Reaches tells history (IsAtRest stage.kept) (Passes stage) old new
+  pub ok : OnOk result (Moves tells history (IsAtRest stage.kept) (IsAtRest (after_stage stage)) (Passes stage) old new)
+  pub kept : OnOk result (IsTrue (tells new) → bytes_of (history old) ≡ stage.kept → IsAtRest (after_stage stage) (history new))
+  pub lengths : IsTrue (tells new) → lengths_asked (history new).deeds ≡ lengths_asked (history old).deeds
+
+-- the same, but where it is Ok all is put and not yet kept
+pub record PutsAll {D T E : Type 0} (tells : D → Bool) (history : D → History) (stage : Stage) (result : Result T E) (old new : D) : Type 0 where
+  pub reaches : Reaches tells history (IsAtRest stage.kept) (Passes stage) old new
+  pub ok : OnOk result (Moves tells history (IsAtRest stage.kept) (HasPut stage.kept stage.puts (after_stage stage)) (Passes stage) old new)
+  pub now : OnOk result (IsTrue (tells new) → bytes_of (history old) ≡ stage.kept → bytes_of (history new) ≡ after_stage stage)
+  pub lengths : IsTrue (tells new) → lengths_asked (history new).deeds ≡ lengths_asked (history old).deeds
+
+-- the device is in one of these stages
+pub record IsInStage (stages : List Stage) (h : History) : Type 0 where
+  pub stage : Stage
+  pub among : Contains stages stage
+  pub putting : IsPutting stage.kept stage.puts h
+
+-- several stages one after another, from these bytes to those
+pub record PerformsAll {D T E : Type 0} (tells : D → Bool) (history : D → History) (kept all : List ℕ) (stages : List Stage) (result : Result T E) (old new : D) : Type 0 where
+  pub reaches : Reaches tells history (IsAtRest kept) (IsInStage stages) old new
+  pub ok : OnOk result (Moves tells history (IsAtRest kept) (IsAtRest all) (IsInStage stages) old new)
+  pub kept_ok : OnOk result (IsTrue (tells new) → bytes_of (history old) ≡ kept → IsAtRest all (history new))
+  pub lengths : IsTrue (tells new) → lengths_asked (history new).deeds ≡ lengths_asked (history old).deeds
+
+-- ---- the old areas
+
+-- zeros for the area at a place, as far as a device of this length has it
+abbrev pub area_zeros : ℕ → ℕ → Put
+area_zeros len place = record { at = place; bytes = replicate (min 4096 (len - place)) 0 }
+
+-- an area is zeroed
+abbrev pub zero_stage : List ℕ → ℕ → Stage
+zero_stage bytes place = record { kept = bytes; puts = area_zeros (length bytes) place ∷ [] }
+
+-- the places that are zeroed one after another: the other area's and then the active one's, or the first area's where none is active
+abbrev pub places_by : Pick → Option Superblock → List ℕ
+places_by (picks.Active First) (Some s) = second_place_of s ∷ 0x2000 ∷ []
+places_by (picks.Active Second) (Some s) = 0x2000 ∷ second_place_of s ∷ []
+places_by (picks.Active which) None = 0x2000 ∷ []
+places_by picks.None s = 0x2000 ∷ []
+places_by picks.Disagree s = 0x2000 ∷ []
+
+-- the places of the old areas in that order
+abbrev pub old_places : List ℕ → List ℕ
+old_places old = places_by (active_area old) (active_super old)
+
+-- the stages that zero areas one after another
+abbrev pub zero_stages : List ℕ → List ℕ → List Stage
+zero_stages bytes [] = []
+zero_stages bytes (place ∷ places) = zero_stage bytes place ∷ zero_stages (after_stage (zero_stage bytes place)) places
+
+-- and the bytes after them
+abbrev pub zeroed : List ℕ → List ℕ → List ℕ
+zeroed bytes [] = bytes
+zeroed bytes (place ∷ places) = zeroed (after_stage (zero_stage bytes place)) places
+
+-- ---- the new volume
+
+-- all blocks that are written, one after another
+unfoldable pub all_block_bytes : Geometry → Order → ℕ → List ℕ
+all_block_bytes g order moment = flat_map (made_block_bytes g order moment) (range_with_len 0 (top_block g + 1))
+
+-- these bytes are put into both areas
+abbrev pub areas_stage : Geometry → List ℕ → List ℕ → List ℕ → Stage
+areas_stage g first second bytes = record { kept = bytes; puts = record { at = area_place g First; bytes = first } ∷ record { at = area_place g Second; bytes = second } ∷ [] }
+
+-- both areas are zeroed
+abbrev pub clear_stage : Geometry → List ℕ → Stage
+clear_stage g bytes = areas_stage g (replicate 4096 0) (replicate 4096 0) bytes
+
+-- the blocks of both halves and of the root directory are put
+abbrev pub blocks_stage : Geometry → Order → ℕ → List ℕ → Stage
+blocks_stage g order moment bytes = record { kept = bytes; puts = record { at = 0x3000; bytes = all_block_bytes g order moment } ∷ [] }
+
+-- both superblocks are put
+abbrev pub supers_stage : Geometry → Order → ℕ → List ℕ → Stage
+supers_stage g order moment bytes = areas_stage g (made_super_bytes g order moment First) (made_super_bytes g order moment Second) bytes
+
+-- nothing is put
+abbrev pub rest_stage : List ℕ → Stage
+rest_stage bytes = record { kept = bytes; puts = [] }
+
+-- the bytes once both new areas are zeroed, once the blocks stand, and once the superblocks do
+abbrev pub with_areas : Geometry → List ℕ → List ℕ
+with_areas g bytes = after_stage (clear_stage g bytes)
+
+abbrev pub with_blocks : Geometry → Order → ℕ → List ℕ → List ℕ
+with_blocks g order moment bytes = after_stage (blocks_stage g order moment bytes)
+
+abbrev pub with_supers : Geometry → Order → ℕ → List ℕ → List ℕ
+with_supers g order moment bytes = after_stage (supers_stage g order moment bytes)
+
+-- the stages that make a volume of zeros and old bytes of its length
+abbrev pub new_stages : Geometry → Order → ℕ → List ℕ → List Stage
+new_stages g order moment bytes =
+    clear_stage g bytes ∷ blocks_stage g order moment (with_areas g bytes) ∷ supers_stage g order moment (with_blocks g order moment (with_areas g bytes))
+    ∷ rest_stage (with_supers g order moment (with_blocks g order moment (with_areas g bytes))) ∷ []
+
+-- the stages that zero the old areas, and the rest behind them
+abbrev pub old_stages : List ℕ → List Stage
+old_stages old = zero_stages old (old_places old) ++ rest_stage (zeroed old (old_places old)) ∷ []
+
+-- all stages, over a device with these bytes that gets this length
+abbrev pub make_stages : Geometry → Order → ℕ → ℕ → List ℕ → List Stage
+make_stages g order moment size old = old_stages old ++ new_stages g order moment (resized (zeroed old (old_places old)) size)
+
+-- the bytes at the end
+abbrev pub made_bytes : Geometry → Order → ℕ → ℕ → List ℕ → List ℕ
+made_bytes g order moment size old = with_supers g order moment (with_blocks g order moment (with_areas g (resized (zeroed old (old_places old)) size)))

@@ -1,0 +1,187 @@
+//! The blocks of a new volume, one after another.
+ghost use Rattle.std.specs.Prelude.{◌≡◌, ◌+◌, ◌*◌, ◌^◌, ◌≤◌, ◌<◌, flat_map, length};
+ghost use Rattle.std.specs.List.{range_with_len};
+
+ghost use Rattle.qx_geom.specs.Layout.{IsGeometry, IsPointerBlock, first_block};
+ghost use Rattle.qx_geom.specs.Pointer.{per_block};
+ghost use Rattle.qx_make.specs.Blocks.{bitmap_byte, bitmap_leaf_bytes, half_block_bytes, inode_leaf_bytes, is_taken, made_block_bytes, pointer_block_bytes, top_block, top_directory_bytes, top_inode_bytes};
+
+use qx_fields::{Order, put16, put32, put32s, put64};
+use qx_geom::{Geometry, Which};
+
+/// The volume that is made.
+#[derive(Clone, Copy)]
+pub struct NewVolume {
+    pub geometry: Geometry,
+    /// The order of all numbers.
+    pub order: Order,
+    /// The moment of making, in seconds since 1970.
+    pub moment: u32,
+}
+
+/// The mode of a new directory: `rwxr-xr-x` (POSIX).
+const TOP_MODE: u16 = 0o40755;
+
+/// An inode's status where it is a directory's (this project's own).
+const DIRECTORY_STATUS: u8 = 1;
+
+/// Whether a bit of the bitmap is 1: its block is held, or there is no such block.
+fn is_bit_set(geometry: &Geometry, bit: u64) -> bool
+    requires { IsGeometry geometry.now }
+    ensures { result ≡ is_taken geometry.now bit }
+{
+    bit <= 2 * u64::from(geometry.half) || u64::from(geometry.num_blocks) <= bit
+}
+
+/// A byte of the bitmap.
+#[tactic(auto, unfolding(crate::specs::Blocks::bitmap_byte))]
+fn byte_of_bitmap(geometry: &Geometry, index: u64) -> u8
+    requires geometry { IsGeometry geometry.now }
+    requires index { index < 2 ^ 32 }
+    ensures { result ≡ bitmap_byte geometry.now index }
+{
+    let mut byte = 0;
+    for bit in 0..8u8 {
+        if is_bit_set(geometry, 8 * index + u64::from(bit)) {
+            byte += 1 << bit;
+        }
+    }
+    byte
+}
+
+/// Fills a leaf of the bitmap.
+fn fill_bitmap_leaf(geometry: &Geometry, leaf: u32, into: &mut [u8])
+    requires geometry { IsGeometry geometry.now }
+    requires leaf { leaf < geometry.now.bitmap_leaves }
+    requires into { length into.old ≡ geometry.now.blocksize }
+    ensures { into.new ≡ bitmap_leaf_bytes geometry.now leaf }
+{
+    let first = u64::from(leaf) * u64::from(geometry.blocksize);
+    for (index, byte) in into.iter_mut().enumerate() {
+        *byte = byte_of_bitmap(geometry, first + index as u64);
+    }
+}
+
+/// Fills a pointer block of one of the four system trees.
+fn fill_pointer_block(
+    geometry: &Geometry,
+    order: Order,
+    which: Which,
+    bitmap: bool,
+    block: u32,
+    into: &mut [u8],
+)
+    requires geometry { IsGeometry geometry.now }
+    requires block { IsPointerBlock geometry.now which bitmap block }
+    requires into { length into.old ≡ geometry.now.blocksize }
+    ensures { into.new ≡ pointer_block_bytes geometry.now order which bitmap block }
+{
+    for word in 0..geometry.blocksize / 4 {
+        let pointer = geometry.system_word(which, bitmap, block, word);
+        put32(order, into, 4 * word as usize, pointer);
+    }
+}
+
+/// Fills 128 bytes with the root directory's inode.
+fn fill_top_inode(order: Order, size: u32, block: u32, moment: u32, into: &mut [u8])
+    requires { length into.old ≡ 128 }
+    ensures { into.new ≡ top_inode_bytes order size block moment }
+{
+    into.fill(0);
+    put64(order, into, 0, u64::from(size));
+    put32s(order, into, 16, &[moment; 4]);
+    put16(order, into, 32, TOP_MODE);
+    put32(order, into, 36, block);
+    into[40..100].fill(0xFF);
+    into[101] = DIRECTORY_STATUS;
+}
+
+/// Fills a leaf of the Inode tree: inode 1 stands in the first, all others are 0.
+#[tactic(auto, unfolding(crate::specs::Blocks::inode_leaf_bytes))]
+fn fill_inode_leaf(geometry: &Geometry, order: Order, moment: u32, leaf: u32, into: &mut [u8])
+    requires geometry { IsGeometry geometry.now }
+    requires into { length into.old ≡ geometry.now.blocksize }
+    ensures { into.new ≡ inode_leaf_bytes geometry.now order moment leaf }
+{
+    into.fill(0);
+    if leaf == 0 {
+        let top = 2 * geometry.half;
+        fill_top_inode(order, geometry.blocksize, top, moment, &mut into[0..128]);
+    }
+}
+
+/// Fills the root directory's block with its rows `.` and `..`.
+fn fill_top_directory(order: Order, into: &mut [u8])
+    requires { 64 ≤ length into.old }
+    ensures { into.new ≡ top_directory_bytes order (length into.old) }
+{
+    into.fill(0);
+    put32(order, into, 0, 1);
+    into[4..6].copy_from_slice(&[1, b'.']);
+    put32(order, into, 32, 1);
+    into[36..39].copy_from_slice(&[2, b'.', b'.']);
+}
+
+/// The first block of an area's half.
+fn first_of_half(geometry: &Geometry, which: Which) -> u32
+    ensures { result ≡ first_block geometry.now which }
+{
+    match which {
+        Which::First => 0,
+        Which::Second => geometry.half,
+    }
+}
+
+/// Fills a block of an area's half, by its index there.
+fn fill_half_block(volume: &NewVolume, which: Which, index: u32, into: &mut [u8])
+    requires geometry { IsGeometry volume.now.geometry }
+    requires index { index < volume.now.geometry.half }
+    requires into { length into.old ≡ volume.now.geometry.blocksize }
+    ensures { into.new ≡ half_block_bytes volume.now.geometry volume.now.order volume.now.moment which index }
+{
+    let geometry = &volume.geometry;
+    let first = first_of_half(geometry, which);
+    let bitmap_blocks = geometry.bitmap_leaves + geometry.bitmap_pointers;
+    if index < geometry.bitmap_leaves {
+        fill_bitmap_leaf(geometry, index, into);
+    } else if index < bitmap_blocks {
+        fill_pointer_block(geometry, volume.order, which, true, first + index, into);
+    } else if index < bitmap_blocks + geometry.inode_leaves {
+        let leaf = index - bitmap_blocks;
+        fill_inode_leaf(geometry, volume.order, volume.moment, leaf, into);
+    } else {
+        fill_pointer_block(geometry, volume.order, which, false, first + index, into);
+    }
+}
+
+/// Fills one of the blocks that are written.
+#[tactic(auto, using(std::proofs::lemmas::Bool::Decides::nat_tests), unfolding(crate::specs::Blocks::made_block_bytes))]
+fn fill_block(volume: &NewVolume, block: u32, into: &mut [u8])
+    requires geometry { IsGeometry volume.now.geometry }
+    requires block { block ≤ top_block volume.now.geometry }
+    requires into { length into.old ≡ volume.now.geometry.blocksize }
+    ensures { into.new ≡ made_block_bytes volume.now.geometry volume.now.order volume.now.moment block }
+{
+    let half = volume.geometry.half;
+    if block < half {
+        fill_half_block(volume, Which::First, block, into);
+    } else if block < 2 * half {
+        fill_half_block(volume, Which::Second, block - half, into);
+    } else {
+        fill_top_directory(volume.order, into);
+    }
+}
+
+/// Fills so many of them from one on.
+pub fn fill_blocks(volume: &NewVolume, first: u32, count: u32, into: &mut [u8])
+    requires geometry { IsGeometry volume.now.geometry }
+    requires blocks { first + count ≤ top_block volume.now.geometry + 1 }
+    requires into { length into.old ≡ count * volume.now.geometry.blocksize }
+    ensures { into.new ≡ flat_map (made_block_bytes volume.now.geometry volume.now.order volume.now.moment) (range_with_len first count) }
+{
+    let size = volume.geometry.blocksize as usize;
+    for index in 0..count {
+        let at = index as usize * size;
+        fill_block(volume, first + index, &mut into[at..at + size]);
+    }
+}
