@@ -99,14 +99,18 @@ first_block g Second = g.half
 abbrev pub user_blocks : Geometry → ℕ
 user_blocks g = g.num_blocks - 2 * g.half
 
+-- the byte at which block 0 stands
+abbrev pub blocks_begin : ℕ
+blocks_begin = 0x3000
+
 -- the byte at which a superblock area stands
 abbrev pub area_place : Geometry → Which → ℕ
 area_place g First = 0x2000
-area_place g Second = 0x3000 + g.num_blocks * g.blocksize
+area_place g Second = blocks_begin + g.num_blocks * g.blocksize
 
 -- the byte at which a block stands
 abbrev pub block_place : Geometry → ℕ → ℕ
-block_place g b = 0x3000 + b * g.blocksize
+block_place g b = blocks_begin + b * g.blocksize
 
 -- the pointer to block j of a level of a tree of n leaves whose blocks begin at `base`; absent past the last one
 abbrev pub system_pointer : ℕ → ℕ → ℕ → ℕ → ℕ → ℕ

@@ -1,6 +1,6 @@
 -- Words on lists and on the numbers below a bound.
 use Rattle.std.specs.Prelude.{ℕ, zero, suc, ◌+◌, Bool, true, not, ◌&&◌, List, [], ◌∷◌, ◌++◌, map, Option, Some, None, nat_eq, if◌then◌else◌, Contains, ◌<◌}
-use Rattle.std.specs.List.{range_with_len, list_any}
+use Rattle.std.specs.List.{find, list_any, range_with_len}
 
 -- f at each number below n, in order
 abbrev pub each_below : {A : Type 0} → ℕ → (ℕ → A) → List A
@@ -20,14 +20,9 @@ abbrev pub all_differ : List ℕ → Bool
 all_differ [] = true
 all_differ (x ∷ xs) = not (is_in xs x) && all_differ xs
 
--- the least number from a place on, among the next n, that passes the test
-abbrev pub first_from : (ℕ → Bool) → ℕ → ℕ → Option ℕ
-first_from test at zero = None
-first_from test at (suc n) = if test at then Some at else first_from test (at + 1) n
-
 -- the least number below n that passes the test
 abbrev pub first_below : (ℕ → Bool) → ℕ → Option ℕ
-first_below test n = first_from test 0 n
+first_below test n = find test (range_with_len 0 n)
 
 -- no element stands at two places of the list
 abbrev pub Distinct : {A : Type 0} → List A → Type 0

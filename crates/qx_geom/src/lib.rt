@@ -14,8 +14,9 @@ mod tree;
 
 pub use area::Which;
 pub use examples::{
-    the_need_of_a_far_leaf, the_need_of_a_frozen_node, the_need_of_a_growing_node,
-    the_need_of_a_sparse_node,
+    the_need_of_a_far_leaf, the_need_of_a_filled_node, the_need_of_a_frozen_node,
+    the_need_of_a_growing_node, the_need_of_a_moved_leaf, the_need_of_a_sparse_node,
+    the_need_of_changed_levels,
 };
 pub use geometry::{GeomFault, Geometry};
 pub use laws::{

@@ -1,9 +1,10 @@
 -- The tree of a new volume by itself: its one directory names nothing.
 use Rattle.std.proofs.Common.{◌≡◌, ℕ, inl, inr, ◌⊎◌, zero, suc, ◌-◌, ◌/◌, ◌≤◌, List, [], ◌∷◌, refl, ap, sym, ◌∙◌, subst, arith, length, Option, Some, None}
 use Rattle.std.specs.Prelude.{replicate, slice_get}
+use Rattle.std.specs.Option.{option_flatten}
 use Rattle.std.proofs.lemmas.List.{length-replicate}
 use Rattle.qx_model.specs.EmptyTree.{empty_tree, new_directory}
-use Rattle.qx_model.specs.Tree.{Directory, Entry, Free, IsDirectoryIn, NamesAt, Reached, Row, Slot, Tree, entry_of, flat, named_by, slots_of, slots_of_entry, top, down}
+use Rattle.qx_model.specs.Tree.{Directory, Entry, Unused, IsDirectory, NamesAt, Reached, Row, Slot, Tree, entry_of, named_by, slots_of, slots_of_entry, top, down}
 use Rattle.qx_view.specs.Reading.{AreRows, IsRooted, is_plain}
 
 -- ---- lists of one element
@@ -19,7 +20,7 @@ abbrev no_entry : Option Entry
 no_entry = None
 
 -- no inode is live among places that are free
-none_live : (n k : ℕ) → flat (slice_get (replicate n no_entry) k) ≡ None
+none_live : (n k : ℕ) → option_flatten (slice_get (replicate n no_entry) k) ≡ None
 none_live zero k = refl
 none_live (suc n) zero = refl
 none_live (suc n) (suc k) = none_live n k
@@ -35,7 +36,7 @@ module _ (blocksize num_inodes moment : ℕ) where
 
   -- the entry's slots
   abbrev root_slots : List Slot
-  root_slots = Row 1 (46 ∷ []) None ∷ Row 1 (46 ∷ 46 ∷ []) None ∷ replicate (blocksize / 32 - 2) Free
+  root_slots = Row 1 (46 ∷ []) None ∷ Row 1 (46 ∷ 46 ∷ []) None ∷ replicate (blocksize / 32 - 2) Unused
 
   -- inode 1 is the directory
   pub entry_top : entry_of t 1 ≡ Some root_entry
@@ -62,13 +63,13 @@ module _ (blocksize num_inodes moment : ℕ) where
   row_cases : (k n : ℕ) (name : List ℕ) (long : Option ℕ) → slice_get root_slots k ≡ Some (Row n name long) → (n ≡ 1) × (((k ≡ 0) × (name ≡ 46 ∷ [])) ⊎ ((k ≡ 1) × (name ≡ 46 ∷ 46 ∷ [])))
   row_cases zero n name long e = (cc, inl (refl, cc))
   row_cases (suc zero) n name long e = (cc, inr (refl, cc))
-  row_cases (suc (suc k)) n name long e = let free : Row n name long ≡ Free = replicate_get (blocksize / 32 - 2) k Free (Row n name long) e in absurd (cc)
+  row_cases (suc (suc k)) n name long e = let free : Row n name long ≡ Unused = replicate_get (blocksize / 32 - 2) k Unused (Row n name long) e in absurd (cc)
 
   -- no slot of it names an inode but by `.` or `..`
   none_names : (k n : ℕ) (s : Slot) → slice_get root_slots k ≡ Some s → named_by s ≡ Some n → ⊥
   none_names zero n s e names = let is : s ≡ Row 1 (46 ∷ []) None = cc in let none : None ≡ Some n = ap named_by (sym is) ∙ names in cc
   none_names (suc zero) n s e names = let is : s ≡ Row 1 (46 ∷ 46 ∷ []) None = cc in let none : None ≡ Some n = ap named_by (sym is) ∙ names in cc
-  none_names (suc (suc k)) n s e names = let is : s ≡ Free = replicate_get (blocksize / 32 - 2) k Free s e in let none : None ≡ Some n = ap named_by (sym is) ∙ names in cc
+  none_names (suc (suc k)) n s e names = let is : s ≡ Unused = replicate_get (blocksize / 32 - 2) k Unused s e in let none : None ≡ Some n = ap named_by (sym is) ∙ names in cc
 
   -- so no directory does
   pub names_nothing : (d k n : ℕ) → NamesAt t d k n → ⊥
@@ -85,7 +86,7 @@ module _ (blocksize num_inodes moment : ℕ) where
   reached_one n (down {d = d} r names) = absurd (names_nothing d names.0 n names.1)
 
   -- a directory is inode 1, which is its own parent
-  pub directory_one : (d p : ℕ) → IsDirectoryIn t d p → (d ≡ 1) × (p ≡ 1)
+  pub directory_one : (d p : ℕ) → IsDirectory t d p → (d ≡ 1) × (p ≡ 1)
   directory_one d p (e, slots, is, body) =
       let only : (d ≡ 1) × (e ≡ root_entry) = only_entry d e is in
       let own : Directory root_slots 1 ≡ Directory slots p = ap (λ (x : Entry). x.body) (sym only.1) ∙ body in

@@ -20,8 +20,9 @@ use Rattle.qx_nodes.specs.Content.{bytes_at_leaf, leaf_bytes}
 use Rattle.qx_nodes.specs.Leaves.{Block, Damage, Hole, followed, leaf_of}
 use Rattle.qx_nodes.specs.Visits.{visits_of}
 use Rattle.qx_nodes.proofs.LeafPaths.{by_one}
-use Rattle.qx_records.specs.NameRecord.{Short, Unused, raw_in}
-use Rattle.qx_model.specs.Tree.{Free, Row, Slot}
+use Rattle.qx_records.specs.NameRecord.{Short, raw_in}
+use Rattle.qx_records.specs.NameRecord as records
+use Rattle.qx_model.specs.Tree.{Unused, Row, Slot}
 use Rattle.qx_view.specs.Images.{raw_of}
 use Rattle.qx_view.specs.Reading.{slot_of, slots_read}
 use Rattle.qx_make.specs.Blocks.{row_bytes, top_block, top_directory_bytes}
@@ -41,10 +42,6 @@ one_visit m size block there one =
     let test : ((block == absent) || nat_le (ceil_div size m.size) 0) ≡ false = or_from _ _ there (ap (λ k. nat_le k 0) one) in
     rw test refl
 
--- a node of nothing meets nothing
-pub no_visit : (m : BlockMap) → visits_of m empty_root ≡ []
-no_visit m = refl
-
 -- ---- records
 
 -- the first record is `.`
@@ -60,7 +57,7 @@ second_record Little blocksize = refl
 second_record Big blocksize = refl
 
 -- zeros are an unused one
-zero_record : (order : Order) → raw_in order (replicate 32 0) ≡ Unused
+zero_record : (order : Order) → raw_in order (replicate 32 0) ≡ records.Unused
 unfolding raw_in field
 zero_record Little = refl
 zero_record Big = refl
@@ -76,7 +73,7 @@ behind_rows Little blocksize o behind = drop_zeros (both_rows Little) 64 o (bloc
 behind_rows Big blocksize o behind = drop_zeros (both_rows Big) 64 o (blocksize - 64) refl behind
 
 -- so many unused records
-free_slots : (f : ℕ → Option Slot) (a n : ℕ) → ((k : ℕ) → a ≤ k → k < a + n → f k ≡ Some Free) → map f (range_with_len a n) ≡ map (λ s. Some s) (replicate n Free)
+free_slots : (f : ℕ → Option Slot) (a n : ℕ) → ((k : ℕ) → a ≤ k → k < a + n → f k ≡ Some Unused) → map f (range_with_len a n) ≡ map (λ s. Some s) (replicate n Unused)
 free_slots f a zero each = refl
 free_slots f a (suc n) each = λ i. each a (omega arith) (omega arith) i ∷ free_slots f (a + 1) n (λ k low high. each k (omega arith) (omega arith)) i
 
@@ -138,7 +135,7 @@ module _ (v : NewBlocks) where
   raw_second = let b = bounds in raw_is 1 (omega arith) ∙ second_record v.order g.blocksize
 
   -- the others are unused
-  pub raw_rest : (k : ℕ) → 2 ≤ k → k < g.blocksize / 32 → raw_of m top_node k ≡ Unused
+  pub raw_rest : (k : ℕ) → 2 ≤ k → k < g.blocksize / 32 → raw_of m top_node k ≡ records.Unused
   raw_rest k above low =
       let long : 32 ≡ k * 32 + 32 - k * 32 = omega arith in
       raw_is k (omega arith)
@@ -149,7 +146,7 @@ module _ (v : NewBlocks) where
 
   -- the slots of the new directory
   abbrev pub top_slots : List Slot
-  top_slots = Row 1 (46 ∷ []) None ∷ Row 1 (46 ∷ 46 ∷ []) None ∷ replicate (g.blocksize / 32 - 2) Free
+  top_slots = Row 1 (46 ∷ []) None ∷ Row 1 (46 ∷ 46 ∷ []) None ∷ replicate (g.blocksize / 32 - 2) Unused
 
   -- are those that are read
   pub slots_are : slots_read m empty_root top_node ≡ map (λ s. Some s) top_slots
@@ -164,7 +161,7 @@ module _ (v : NewBlocks) where
       ∙ ap (λ l. Some (Row 1 (46 ∷ []) None) ∷ Some (Row 1 (46 ∷ 46 ∷ []) None) ∷ l) (free_slots f 2 rest (λ k low high. ap (λ r. slot_of m empty_root r) (raw_rest k low (omega arith))))
 
   -- a record is one of three
-  pub raw_cases : (k : ℕ) → k < g.blocksize / 32 → (raw_of m top_node k ≡ Short 1 (46 ∷ [])) ⊎ ((raw_of m top_node k ≡ Short 1 (46 ∷ 46 ∷ [])) ⊎ (raw_of m top_node k ≡ Unused))
+  pub raw_cases : (k : ℕ) → k < g.blocksize / 32 → (raw_of m top_node k ≡ Short 1 (46 ∷ [])) ⊎ ((raw_of m top_node k ≡ Short 1 (46 ∷ 46 ∷ [])) ⊎ (raw_of m top_node k ≡ records.Unused))
   raw_cases k low = elim (cases_eq k 0) [
     | inl first ↦ inl (ap (λ j. raw_of m top_node j) first ∙ raw_first)
     | inr later ↦ elim (cases_eq k 1) [

@@ -54,34 +54,12 @@ top_inode_in Little size block moment s b t =
     let long : field Little 8 (digits Little 8 size) 0 ≡ size = number_digits Little 8 size [] s in
     let here : field Little 4 (digits Little 4 block) 0 ≡ block = number_digits Little 4 block [] b in
     let when : field Little 4 (digits Little 4 moment) 0 ≡ moment = number_digits Little 4 moment [] t in
-    λ i. record {
-      root = record { size = long i; pointers = here i ∷ replicate 15 absent; levels = 0 };
-      uid = 0;
-      gid = 0;
-      ftime = when i;
-      mtime = when i;
-      atime = when i;
-      ctime = when i;
-      mode = 0x41ED;
-      ext_mode = 0;
-      status = 1;
-    }
+    λ i. top_inode (long i) (here i) (when i)
 top_inode_in Big size block moment s b t =
     let long : field Big 8 (digits Big 8 size) 0 ≡ size = number_digits Big 8 size [] s in
     let here : field Big 4 (digits Big 4 block) 0 ≡ block = number_digits Big 4 block [] b in
     let when : field Big 4 (digits Big 4 moment) 0 ≡ moment = number_digits Big 4 moment [] t in
-    λ i. record {
-      root = record { size = long i; pointers = here i ∷ replicate 15 absent; levels = 0 };
-      uid = 0;
-      gid = 0;
-      ftime = when i;
-      mtime = when i;
-      atime = when i;
-      ctime = when i;
-      mode = 0x41ED;
-      ext_mode = 0;
-      status = 1;
-    }
+    λ i. top_inode (long i) (here i) (when i)
 
 -- they are 128
 top_inode_bytes-length : (order : Order) (size block moment : ℕ) → length (top_inode_bytes order size block moment) ≡ 128

@@ -13,7 +13,7 @@ use Rattle.qx_nodes.specs.Visits.{Visit, visits_of}
 use Rattle.qx_model.specs.EmptyTree.{empty_tree}
 use Rattle.qx_model.specs.Tree.{Tree}
 use Rattle.qx_view.specs.Images.{Roots, inode_of}
-use Rattle.qx_view.specs.Reading.{IsApart, IsUndamaged, OfBeside, OfInode, OfInodes, OfLongfile, Owner, StandsAt}
+use Rattle.qx_view.specs.Reading.{IsApart, IsUndamaged, OfFurther, OfInode, OfInodes, OfLongfile, Owner, StandsAt}
 use Rattle.qx_make.specs.Blocks.{top_block}
 use Rattle.qx_make.specs.NewVolume.{empty_root, new_roots}
 use Rattle.qx_make.proofs.EmptyTrees.{only_entry}
@@ -48,22 +48,22 @@ module _ (v : NewBlocks) (which : Which) where
     -- a block of the Inode tree
     InInodes : {u : Visit} → StandsInTree v which false u → Stands OfInodes u
     -- of the Bitmap tree
-    InBitmap : {u : Visit} → StandsInTree v which true u → Stands (OfBeside 0) u
+    InBitmap : {u : Visit} → StandsInTree v which true u → Stands (OfFurther 0) u
     -- or the directory's
     InTop : Stands (OfInode 1) (top_visit g)
 
-  -- a root node beside the two is the Bitmap's
-  one_beside : (k : ℕ) (node : Root) → slice_get r.beside k ≡ Some node → (k ≡ 0) × (node ≡ system_root_of g which true)
-  one_beside zero node e = (refl, cc)
-  one_beside (suc k) node e = absurd (cc)
+  -- a further root node is the Bitmap's
+  one_further : (k : ℕ) (node : Root) → slice_get r.further k ≡ Some node → (k ≡ 0) × (node ≡ system_root_of g which true)
+  one_further zero node e = (refl, cc)
+  one_further (suc k) node e = absurd (cc)
 
   -- each block of the tree stands at one of those
   stands : (o : Owner) (u : Visit) → StandsAt m r (new_tree v) o u → Stands o u
   stands OfInodes u (node, is, met) = InInodes (system_met v which false u (subst (λ x. Contains (visits_of m x) u) is met))
   stands OfLongfile u (node, is, met) = let none : Contains (visits_of m empty_root) u = subst (λ x. Contains (visits_of m x) u) is met in absurd (omega (arith, none.1))
-  stands (OfBeside k) u (node, is, met) =
-      let one : (k ≡ 0) × (node ≡ system_root_of g which true) = one_beside k node is in
-      subst (λ j. Stands (OfBeside j) u) (sym one.0) (InBitmap (system_met v which true u (subst (λ x. Contains (visits_of m x) u) one.1 met)))
+  stands (OfFurther k) u (node, is, met) =
+      let one : (k ≡ 0) × (node ≡ system_root_of g which true) = one_further k node is in
+      subst (λ j. Stands (OfFurther j) u) (sym one.0) (InBitmap (system_met v which true u (subst (λ x. Contains (visits_of m x) u) one.1 met)))
   stands (OfInode n) u (node, has, met) =
       let only = only_entry g.blocksize g.num_inodes v.moment n has.0 has.1 in
       let is : node ≡ top_node v = has.3 ∙ ap (λ k. (inode_of m r.inodes k).root) only.0 ∙ ap (λ i. i.root) (top_inode_is v which) in

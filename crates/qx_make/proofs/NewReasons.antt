@@ -1,7 +1,7 @@
 -- No reason applies to a new volume.
 use Rattle.std.proofs.Common.{◌≡◌, ℕ, inl, inr, zero, suc, ◌+◌, ◌-◌, ◌*◌, ◌/◌, ◌%◌, ◌≤◌, ◌<◌, ◌^◌, List, [], ◌∷◌, Bool, true, false, refl, ap, sym, ◌∙◌, arith, length, drop, Some, None}
 use Rattle.std.specs.Prelude.{◌==◌, ◌&&◌, ◌||◌, not, nat_eq, nat_le, nat_lt, map, filter, if◌then◌else◌}
-use Rattle.std.specs.List.{list_any, list_all}
+use Rattle.std.specs.List.{find, list_all, list_any, range_with_len}
 use Rattle.std.proofs.Math.Nat.{div_self, mod_self, zero-mod}
 use Rattle.std.proofs.lemmas.Nat.{div_below}
 use Rattle.std.proofs.lemmas.Bool.{and_from, and_right, cases_order, cond-false, eq-eqb, le-leb, lt-leb, lt-ltb, le-ltb, ne_eqb, or_from, or_left, or_right}
@@ -13,7 +13,7 @@ use Rattle.qx_geom.specs.declared.area.Which.TheVariants.{First, Second}
 use Rattle.qx_geom.specs.declared.geometry.Geometry.{Geometry}
 use Rattle.qx_geom.specs.declared.root.Root.{Root}
 use Rattle.qx_geom.specs.Layout.{levels_for, system_root_of}
-use Rattle.qx_geom.specs.Lists.{first_below, first_from, is_in}
+use Rattle.qx_geom.specs.Lists.{first_below, is_in}
 use Rattle.qx_geom.specs.Pointer.{absent, ceil_div, per_block}
 use Rattle.qx_geom.proofs.BlockSizes.{BlockSizeBounds, block_size-bounds, power_pos}
 use Rattle.qx_geom.proofs.LeastLevels.{levels_for-le}
@@ -25,7 +25,7 @@ use Rattle.qx_nodes.proofs.LeafPaths.{by_one}
 use Rattle.qx_records.specs.declared.inode.Inode.{Inode}
 use Rattle.qx_view.specs.Images.{Roots, inode_bytes, inode_of, inode_places, raw_of}
 use Rattle.qx_view.specs.Walk.{inode_root, is_directory_inode}
-use Rattle.qx_view.specs.Sound.{are_zero, bad_long_name, bit_differs, fails_dots, fails_inodes, fails_nodes, has_bare_block, has_leaf_below, has_strays, is_foreign_directory, is_foreign_node, is_half, is_same_root, is_short, is_special_inode, is_written_inode, must_be_set}
+use Rattle.qx_view.specs.Sound.{are_zero, bad_long_name, bit_differs, fails_dots, fails_inodes, fails_nodes, has_bare_block, has_leaf_below, has_strays, is_foreign_directory, is_foreign_node, has_system_trees, is_same_root, is_short, is_special_inode, is_written_inode, must_be_set}
 use Rattle.qx_make.specs.Blocks.{is_taken, top_block, top_inode_bytes}
 use Rattle.qx_make.specs.NewVolume.{empty_root, new_roots}
 use Rattle.qx_make.proofs.NewBitmap.{bit_of, new_bit}
@@ -39,9 +39,9 @@ use Rattle.qx_make.proofs.NewWords.{system_tree_right}
 -- ---- tests that no number passes
 
 -- among numbers that fail a test none passes
-from_none : (p : ℕ → Bool) (at n : ℕ) → ((k : ℕ) → at ≤ k → k < at + n → p k ≡ false) → first_from p at n ≡ None
+from_none : (p : ℕ → Bool) (at n : ℕ) → ((k : ℕ) → at ≤ k → k < at + n → p k ≡ false) → find p (range_with_len at n) ≡ None
 from_none p at zero each = refl
-from_none p at (suc n) each = cond-false (p at) (Some at) (first_from p (at + 1) n) (each at (omega arith) (omega arith)) ∙ from_none p (at + 1) n (λ k low high. each k (omega arith) (omega arith))
+from_none p at (suc n) each = cond-false (p at) (Some at) (find p (range_with_len (at + 1) n)) (each at (omega arith) (omega arith)) ∙ from_none p (at + 1) n (λ k low high. each k (omega arith) (omega arith))
 
 -- and among those below a bound
 pub first_none : (p : ℕ → Bool) (n : ℕ) → ((k : ℕ) → k < n → p k ≡ false) → first_below p n ≡ None
@@ -144,11 +144,11 @@ module _ (v : NewBlocks) where
     -- ---- the halves
 
     -- both halves are as they must be
-    halves : (other : Which) → is_half m g other ≡ true
+    halves : (other : Which) → has_system_trees m g other ≡ true
     halves other = and_from _ _ (system_tree_right v other true) (system_tree_right v other false)
 
     -- the root nodes are the half's, and both halves are as they must be
-    pub roots_and_halves : (is_same_root bitmap bitmap && (is_same_root r.inodes r.inodes && (is_half m g First && is_half m g Second))) ≡ true
+    pub roots_and_halves : (is_same_root bitmap bitmap && (is_same_root r.inodes r.inodes && (has_system_trees m g First && has_system_trees m g Second))) ≡ true
     roots_and_halves = and_from _ _ (same_root bitmap) (and_from _ _ (same_root r.inodes) (and_from _ _ (halves First) (halves Second)))
 
     -- the directory's block lies behind them

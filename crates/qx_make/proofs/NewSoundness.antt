@@ -17,7 +17,7 @@ use Rattle.qx_nodes.specs.BlockMap.{BlockMap}
 use Rattle.qx_super.specs.Superblock.{Superblock}
 use Rattle.qx_view.specs.Images.{Roots, inode_places}
 use Rattle.qx_view.specs.Walk.{inode_root}
-use Rattle.qx_view.specs.Sound.{are_counts_right, are_zero, bad_long_name, bit_differs, fails_dots, fails_inodes, fails_nodes, fails_tail, first_some, geometry_if, has_tail, is_half, is_same_root, is_special_inode, is_written_by, last_finding, last_with, outer_blocks, reason_at, reason_in, reason_of, reason_with, tail_finding, written_geometry}
+use Rattle.qx_view.specs.Sound.{are_counts_right, are_zero, bad_long_name, bit_differs, fails_dots, fails_inodes, fails_nodes, fails_tail, first_some, geometry_if, has_tail, has_system_trees, is_same_root, is_special_inode, is_written_by, last_finding, last_with, outer_blocks, reason_at, reason_of, reason_with, reasons_in, tail_finding, written_geometry}
 use Rattle.qx_make.specs.Blocks.{top_block}
 use Rattle.qx_make.specs.NewVolume.{made_superblock, new_roots}
 use Rattle.qx_make.proofs.NewBlocks.{NewBlocks, blocks, inodes_from}
@@ -89,7 +89,7 @@ module _ (v : NewBlocks) (which : Which) where
     least = Some 0
 
     -- the halves are as they must be, and the directory's block lies behind them
-    halves_ours : (if (is_same_root bitmap bitmap && (is_same_root r.inodes r.inodes && (is_half m g First && is_half m g Second))) && list_all (λ b. nat_le (2 * g.half) b) (outer_blocks m r) then None else least) ≡ None
+    halves_ours : (if (is_same_root bitmap bitmap && (is_same_root r.inodes r.inodes && (has_system_trees m g First && has_system_trees m g Second))) && list_all (λ b. nat_le (2 * g.half) b) (outer_blocks m r) then None else least) ≡ None
     halves_ours =
         cond-true _ None least (and_from _ _ (roots_and_halves v which) (ap (λ l. list_all (λ b. nat_le (2 * g.half) b) l) (outer_is v which) ∙ behind_halves v which))
 
@@ -106,7 +106,7 @@ module _ (v : NewBlocks) (which : Which) where
         let inodes : first_below (fails_inodes m r (1 ∷ [])) places ≡ None = first_none _ places (λ k low. inodes_pass v which k low) in
         let names : bad_long_name m r (1 ∷ []) ≡ None = no_long_names v which in
         ap (λ o. reason_with m s which o) (written_is len e)
-        ∙ ap (λ reached. reason_in m s g which r reached) (walked_is v which)
+        ∙ ap (λ reached. first_some (reasons_in m s g which r (outer_blocks m r) reached)) (walked_is v which)
         ∙ (λ i. first_some (reason_at 2 (halves_ours i) ∷ reason_at 3 (bits_ours i) ∷ reason_at 4 (nodes i) ∷ reason_at 5 (dots i) ∷ reason_at 6 (inodes i) ∷ reason_at 7 (names i) ∷ []))
 
     -- ---- counts

@@ -133,7 +133,7 @@ module _ (v : NewBlocks) where
         record {
           inodes_fit = system_fits which false;
           longfile_fits = empty_fits;
-          beside_fit = and_from _ _ (system_fits which true) refl;
+          further_fit = and_from _ _ (system_fits which true) refl;
           rooted = empty_rooted g.blocksize g.num_inodes v.moment;
           places = empty_places g.blocksize g.num_inodes v.moment (omega (arith, inodes_from g v.whole)) ∙ sym (places_are which);
           each = λ k e is.

@@ -11,7 +11,7 @@ use Rattle.qx_nodes.specs.Visits.{Visit, visits_of}
 use Rattle.qx_records.specs.declared.inode.Inode.{Inode}
 use Rattle.qx_records.specs.InodeRecord.{kind_of}
 use Rattle.qx_view.specs.Images.{Roots, inode_places, raw_of}
-use Rattle.qx_view.specs.Walk.{Taken, inode_root, is_directory_inode, is_directory_kind, listed_after, new_ones, taken_from, target_of, targets_of, walked_inodes}
+use Rattle.qx_view.specs.Walk.{Taken, inode_root, is_directory_inode, is_directory_kind, listed_after, new_ones, taken_from, named_inode, named_inodes, walked_inodes}
 use Rattle.qx_view.specs.Sound.{is_special_inode, is_special_kind, outer_blocks}
 use Rattle.qx_view.proofs.AlikeLists.{below_members}
 use Rattle.qx_make.specs.Blocks.{top_block}
@@ -53,25 +53,25 @@ module _ (v : NewBlocks) (which : Which) where
   is_no_special = ap (λ (i : Inode). is_special_kind (kind_of i.mode)) (top_inode_is v which)
 
   -- no record of it names an inode
-  no_target : (k : ℕ) → k < g.blocksize / 32 → target_of m empty_root (raw_of m (top_node v) k) ≡ None
-  no_target k low = elim (raw_cases v k low) [
-    | inl dot ↦ ap (λ x. target_of m empty_root x) dot
-    | inr other ↦ elim other [ inl dots ↦ ap (λ x. target_of m empty_root x) dots | inr unused ↦ ap (λ x. target_of m empty_root x) unused ]
+  no_named_inode : (k : ℕ) → k < g.blocksize / 32 → named_inode m empty_root (raw_of m (top_node v) k) ≡ None
+  no_named_inode k low = elim (raw_cases v k low) [
+    | inl dot ↦ ap (λ x. named_inode m empty_root x) dot
+    | inr other ↦ elim other [ inl dots ↦ ap (λ x. named_inode m empty_root x) dots | inr unused ↦ ap (λ x. named_inode m empty_root x) unused ]
   ]
 
   -- so none is named
-  no_targets : targets_of m r 1 ≡ []
-  no_targets =
+  none_named_by : named_inodes m r 1 ≡ []
+  none_named_by =
       cond-true _ _ _ is_directory
-      ∙ ap (λ (node : Root). filter_map (λ k. target_of m empty_root (raw_of m node k)) (each_below (node.size / 32) (λ k. k))) root_is
-      ∙ none_named (λ k. target_of m empty_root (raw_of m (top_node v) k)) (each_below (g.blocksize / 32) (λ k. k)) (λ k c. no_target k (below_members (g.blocksize / 32) k c))
+      ∙ ap (λ (node : Root). filter_map (λ k. named_inode m empty_root (raw_of m node k)) (each_below (node.size / 32) (λ k. k))) root_is
+      ∙ none_named (λ k. named_inode m empty_root (raw_of m (top_node v) k)) (each_below (g.blocksize / 32) (λ k. k)) (λ k c. no_named_inode k (below_members (g.blocksize / 32) k c))
 
   -- and inode 1 is walked alone
   pub walked_is : walked_inodes m r ≡ 1 ∷ []
   walked_is =
       let rest : List ℕ → List Taken = λ named. taken_from m r (inode_places r) ([] ++ map (λ n. (n, 1)) (new_ones named (1 ∷ []))) (listed_after named (1 ∷ [])) in
       ap (λ fuel. map (λ (t : Taken). t.inode) (taken_from m r fuel ((1, 1) ∷ []) (1 ∷ []))) (add-one (inode_places r))
-      ∙ ap (λ named. 1 ∷ map (λ (t : Taken). t.inode) (rest named)) no_targets
+      ∙ ap (λ named. 1 ∷ map (λ (t : Taken). t.inode) (rest named)) none_named_by
       ∙ ap (λ ts. 1 ∷ map (λ (t : Taken). t.inode) ts) (none_taken m r (inode_places r) (1 ∷ []))
 
   -- the blocks outside the halves

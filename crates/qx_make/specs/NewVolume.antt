@@ -38,7 +38,7 @@ made_superblock g order moment serial which = record {
 
 -- where the tree of an area's half begins
 abbrev pub new_roots : Geometry → Which → Roots
-new_roots g which = record { inodes = system_root_of g which false; longfile = empty_root; beside = system_root_of g which true ∷ [] }
+new_roots g which = record { inodes = system_root_of g which false; longfile = empty_root; further = system_root_of g which true ∷ [] }
 
 -- an image has a new volume: its blocks are those that the maker writes at a moment, and this area is active with the maker's superblock
 pub record HasNewVolume (img : List ℕ) (g : Geometry) (order : Order) (moment serial : ℕ) (which : Which) : Type 0 where

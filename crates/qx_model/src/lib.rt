@@ -6,5 +6,9 @@
 #![tactic(auto)]
 
 mod attr;
+mod examples;
+mod laws;
 
 pub use attr::Attr;
+pub use examples::the_links_of_a_small_tree;
+pub use laws::an_inode_with_links_is_named;

@@ -3,3 +3,4 @@ pub mod LeafPaths
 pub mod ContentLocality
 pub mod DistinctPositions
 pub mod MetLeaves
+pub mod AbsentLeaves

@@ -93,8 +93,20 @@ leaf_visit (v ∷ vs) k c = go (is_leaf v) refl c (leaf_visit vs k)
     ]
     go false e c more = let r : (w : Visit) × Contains vs w × (w.level ≡ 0) × (w.index ≡ k) = more c in (r.0, Contains-cons v r.0 vs r.1, r.2, r.3)
 
+-- a leaf that was met is present
+pub leaf_member : (vs : List Visit) (v : Visit) → Contains vs v → v.level ≡ 0 → Contains (leaves_in vs) v.index
+leaf_member [] v c z = absurd (omega (arith, c.1))
+leaf_member (w ∷ vs) v c z = elim (Contains-cases w v vs c) [
+  | inl is ↦ subst (λ b. Contains (map (λ (x : Visit). x.index) (if b then w ∷ filter is_leaf vs else filter is_leaf vs)) v.index) (sym (eq-eqb w.level 0 (ap (λ (q : Visit). q.level) is ∙ z))) (subst (λ k. Contains (w.index ∷ leaves_in vs) k) (ap (λ (q : Visit). q.index) is) (Contains-head w.index (leaves_in vs)))
+  | inr there ↦ more (is_leaf w) (leaf_member vs v there z)
+]
+  where
+    more : (b : Bool) → Contains (leaves_in vs) v.index → Contains (map (λ (x : Visit). x.index) (if b then w ∷ filter is_leaf vs else filter is_leaf vs)) v.index
+    more true c = Contains-cons w.index v.index (leaves_in vs) c
+    more false c = c
+
 -- ascending lists end to end, the second above the first
-ascending-append : (xs ys : List ℕ) → IsAscending xs → IsAscending ys → ((x y : ℕ) → Contains xs x → Contains ys y → x < y) → IsAscending (xs ++ ys)
+pub ascending-append : (xs ys : List ℕ) → IsAscending xs → IsAscending ys → ((x y : ℕ) → Contains xs x → Contains ys y → x < y) → IsAscending (xs ++ ys)
 ascending-append [] ys a b above = b
 ascending-append (x ∷ xs) ys a b above =
     (λ y c. elim (Contains-append_cases xs ys y c) [ inl l ↦ a.0 y l | inr r ↦ above x y (Contains-head x xs) r ], ascending-append xs ys a.1 b (λ z y c d. above z y (Contains-cons x z xs c) d))
@@ -109,17 +121,6 @@ ascending-parts (suc n) f each above =
     let v : (v : Visit) × Contains (parts_below n f) v × (v.level ≡ 0) × (v.index ≡ x) = leaf_visit (parts_below n f) x c in
     let from : (k : ℕ) × (k < n) × Contains (f k) v.0 = parts-Contains n f v.0 v.1 in
     above from.0 n x y from.1 (omega arith) (subst (λ z. Contains (leaves_in (f from.0)) z) v.3 (leaf_member (f from.0) v.0 from.2 v.2)) d))
-  where
-    leaf_member : (vs : List Visit) (v : Visit) → Contains vs v → v.level ≡ 0 → Contains (leaves_in vs) v.index
-    leaf_member [] v c z = absurd (omega (arith, c.1))
-    leaf_member (w ∷ vs) v c z = elim (Contains-cases w v vs c) [
-      | inl is ↦ subst (λ b. Contains (map (λ (x : Visit). x.index) (if b then w ∷ filter is_leaf vs else filter is_leaf vs)) v.index) (sym (eq-eqb w.level 0 (ap (λ (q : Visit). q.level) is ∙ z))) (subst (λ k. Contains (w.index ∷ leaves_in vs) k) (ap (λ (q : Visit). q.index) is) (Contains-head w.index (leaves_in vs)))
-      | inr there ↦ more (is_leaf w) (leaf_member vs v there z)
-    ]
-      where
-        more : (b : Bool) → Contains (leaves_in vs) v.index → Contains (map (λ (x : Visit). x.index) (if b then w ∷ filter is_leaf vs else filter is_leaf vs)) v.index
-        more true c = Contains-cons w.index v.index (leaves_in vs) c
-        more false c = c
 
 -- leaves below a lesser block come before those below a greater one
 leaf_order : (P l i j x y : ℕ) → 0 < P → x / P ^ l ≡ i → y / P ^ l ≡ j → i < j → x < y

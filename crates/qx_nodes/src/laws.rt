@@ -1,5 +1,5 @@
 //! Laws of what a node's pointers lead to.
-ghost use Rattle.std.specs.Prelude.{◌≡◌, ℕ, ◌<◌, List, Contains};
+ghost use Rattle.std.specs.Prelude.{◌≡◌, ℕ, ◌<◌, List, Contains, replicate};
 ghost use Rattle.qx_geom.specs.declared.root.Root.{Root};
 ghost use Rattle.qx_geom.specs.Lists.{Distinct, IsAscending};
 ghost use Rattle.qx_geom.specs.Pointer.{per_block};
@@ -22,6 +22,12 @@ pub fn a_leaf_that_is_met_is_on_its_path()
 /// The numbers of a node's present leaves ascend.
 pub fn present_leaves_ascend()
     ensures { (m : BlockMap) (node : Root) → 0 < per_block m.size → IsAscending (present_of m node) }
+{}
+
+/// A leaf below the size that isn't present reads as 0.
+pub fn a_leaf_that_is_not_present_reads_as_zeros()
+    ensures { (m : BlockMap) (node : Root) (i : ℕ) → LiesBelow m node i → ¬ (Contains (present_of m node) i)
+        → leaf_bytes m node i ≡ replicate m.size 0 }
 {}
 
 /// Blocks that agree on what a node meets have it meet the same.

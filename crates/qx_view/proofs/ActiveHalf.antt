@@ -26,8 +26,8 @@ use Rattle.qx_view.proofs.ImageTrees.{HasSize-image_blocks, some_same}
 use Rattle.qx_view.proofs.OuterNodes.{inode_outer, longfile_outer, outer_has}
 use Rattle.qx_view.proofs.SystemTrees.{IsInTree, met_in_tree, tree_met}
 use Rattle.qx_view.specs.Images.{image_blocks, main_roots}
-use Rattle.qx_view.specs.Reading.{HasNode, IsHeld, IsTreeOf, OfBeside, OfInode, OfInodes, OfLongfile, Owner}
-use Rattle.qx_view.specs.Sound.{IsSound, are_halves, first_some, geometry_if, is_half, is_same_root, is_system_tree, is_written_by, outer_blocks, reason_at, reason_in, reason_of, reason_with, written_geometry}
+use Rattle.qx_view.specs.Reading.{HasNode, IsHeld, IsTreeOf, OfFurther, OfInode, OfInodes, OfLongfile, Owner}
+use Rattle.qx_view.specs.Sound.{IsSound, first_some, geometry_if, has_system_trees, is_laid_out, is_same_root, is_system_tree, is_written_by, outer_blocks, reason_at, reason_of, reason_with, reasons_in, written_geometry}
 use Rattle.qx_view.specs.Walk.{walked_inodes}
 
 -- ---- the geometry
@@ -84,11 +84,11 @@ test_passed reason true e = refl
 test_passed reason false e = absurd (cc)
 
 -- where no reason applies, the halves are as they must be, and the nodes outside meet no block of them
-pub halves_right : (m : BlockMap) (s : Superblock) (g : Geometry) (which : Which) → reason_in m s g which (main_roots s) (walked_inodes m (main_roots s)) ≡ None
-    → (are_halves m s g which ≡ true) × (list_all (λ b. nat_le (2 * g.half) b) (outer_blocks m (main_roots s)) ≡ true)
+pub halves_right : (m : BlockMap) (s : Superblock) (g : Geometry) (which : Which) → first_some (reasons_in m s g which (main_roots s) (outer_blocks m (main_roots s)) (walked_inodes m (main_roots s))) ≡ None
+    → (is_laid_out m s g which ≡ true) × (list_all (λ b. nat_le (2 * g.half) b) (outer_blocks m (main_roots s)) ≡ true)
 halves_right m s g which none =
-    let both : (are_halves m s g which && list_all (λ b. nat_le (2 * g.half) b) (outer_blocks m (main_roots s))) ≡ true = test_passed 2 _ (first_none _ _ none) in
-    (and_left (are_halves m s g which) _ both, and_right (are_halves m s g which) _ both)
+    let both : (is_laid_out m s g which && list_all (λ b. nat_le (2 * g.half) b) (outer_blocks m (main_roots s))) ≡ true = test_passed 2 _ (first_none _ _ none) in
+    (and_left (is_laid_out m s g which) _ both, and_right (is_laid_out m s g which) _ both)
 
 -- ---- the trees of a half
 
@@ -111,7 +111,7 @@ abbrev root_of_half : Superblock → Bool → Root
 root_of_half s true = s.bitmap
 root_of_half s false = s.inode
 
-module _ (m : BlockMap) (s : Superblock) (g : Geometry) (which : Which) (of : IsGeometryOf s g) (size : m.size ≡ s.blocksize) (count : m.count ≡ s.num_blocks) (right : are_halves m s g which ≡ true) where
+module _ (m : BlockMap) (s : Superblock) (g : Geometry) (which : Which) (of : IsGeometryOf s g) (size : m.size ≡ s.blocksize) (count : m.count ≡ s.num_blocks) (right : is_laid_out m s g which ≡ true) where
   -- the blocks have the geometry's size
   each : m.size ≡ g.blocksize
   each = size ∙ of.size
@@ -125,14 +125,14 @@ module _ (m : BlockMap) (s : Superblock) (g : Geometry) (which : Which) (of : Is
   unfolding system_root_of
   half_tree bitmap = record { root = by_root bitmap; words = by_words bitmap (of_half which) }
     where
-      rest : (is_same_root s.inode (system_root_of g which false) && (is_half m g First && is_half m g Second)) ≡ true
+      rest : (is_same_root s.inode (system_root_of g which false) && (has_system_trees m g First && has_system_trees m g Second)) ≡ true
       rest = and_right (is_same_root s.bitmap (system_root_of g which true)) _ right
 
-      of_half : (w : Which) → is_half m g w ≡ true
-      of_half First = and_left (is_half m g First) _ (and_right (is_same_root s.inode (system_root_of g which false)) _ rest)
-      of_half Second = and_right (is_half m g First) _ (and_right (is_same_root s.inode (system_root_of g which false)) _ rest)
+      of_half : (w : Which) → has_system_trees m g w ≡ true
+      of_half First = and_left (has_system_trees m g First) _ (and_right (is_same_root s.inode (system_root_of g which false)) _ rest)
+      of_half Second = and_right (has_system_trees m g First) _ (and_right (is_same_root s.inode (system_root_of g which false)) _ rest)
 
-      by_words : (bitmap : Bool) → is_half m g which ≡ true → is_system_tree m (tree_base g which bitmap) (tree_leaves g bitmap) ≡ true
+      by_words : (bitmap : Bool) → has_system_trees m g which ≡ true → is_system_tree m (tree_base g which bitmap) (tree_leaves g bitmap) ≡ true
       by_words true half = and_left (is_system_tree m (tree_base g which true) (tree_leaves g true)) _ half
       by_words false half = and_right (is_system_tree m (tree_base g which true) (tree_leaves g true)) _ half
 
@@ -185,7 +185,7 @@ module _ (m : BlockMap) (s : Superblock) (g : Geometry) (which : Which) (of : Is
   half_held t b from to = let at = half_is_trees b from to in by_tree at.0 (root_meets at.0 b at.1)
     where
       by_tree : (bitmap : Bool) → (v : Visit) × Contains (visits_of m (root_of_half s bitmap)) v × (v.block ≡ b) → IsHeld m (main_roots s) t b
-      by_tree true met = (OfBeside 0, met.0, (s.bitmap, refl, met.1), met.2)
+      by_tree true met = (OfFurther 0, met.0, (s.bitmap, refl, met.1), met.2)
       by_tree false met = (OfInodes, met.0, (s.inode, refl, met.1), met.2)
 
   -- and so are its pointer blocks
@@ -211,8 +211,8 @@ module _ (m : BlockMap) (s : Superblock) (g : Geometry) (which : Which) (of : Is
       by_owner : (o : Owner) (node : Root) → HasNode m (main_roots s) t o node → Contains (visits_of m node) v → ((first_block g which ≤ v.block) × (v.block < first_block g which + g.half)) ⊎ (2 * g.half ≤ v.block)
       by_owner OfInodes node has met = inl (root_in_half false v (subst (λ x. Contains (visits_of m x) v) has met))
       by_owner OfLongfile node has met = outer v.block (outer_has m (main_roots s) t room is s.longfile v (longfile_outer m (main_roots s) t room is) (subst (λ x. Contains (visits_of m x) v) has met))
-      by_owner (OfBeside zero) node has met = let one : s.bitmap ≡ node = some_same s.bitmap node has in inl (root_in_half true v (subst (λ x. Contains (visits_of m x) v) (sym one) met))
-      by_owner (OfBeside (suc k)) node has met = absurd (cc)
+      by_owner (OfFurther zero) node has met = let one : s.bitmap ≡ node = some_same s.bitmap node has in inl (root_in_half true v (subst (λ x. Contains (visits_of m x) v) (sym one) met))
+      by_owner (OfFurther (suc k)) node has met = absurd (cc)
       by_owner (OfInode n) node (e, at, some, root) met = outer v.block (outer_has m (main_roots s) t room is _ v (inode_outer m (main_roots s) t room is n e at some) (subst (λ x. Contains (visits_of m x) v) root met))
 
 -- ---- sound images
@@ -222,7 +222,7 @@ pub record SoundParts (img : List ℕ) (t : Tree) (which : Which) (s : Superbloc
   pub size : HasSize (image_blocks img s)
   pub tree : IsTreeOf (image_blocks img s) (main_roots s) t
   pub geometry : IsGeometryOf s g
-  pub none : reason_in (image_blocks img s) s g which (main_roots s) (walked_inodes (image_blocks img s) (main_roots s)) ≡ None
+  pub none : first_some (reasons_in (image_blocks img s) s g which (main_roots s) (outer_blocks (image_blocks img s) (main_roots s)) (walked_inodes (image_blocks img s) (main_roots s))) ≡ None
 
 -- each sound image has them
 pub sound_parts : (img : List ℕ) (t : Tree) (which : Which) (s : Superblock) (g : Geometry) → IsSound img t → active_area img ≡ picks.Active which → active_super img ≡ Some s → written_geometry s (length img) ≡ Some g → SoundParts img t which s g

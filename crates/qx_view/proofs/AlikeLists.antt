@@ -1,12 +1,12 @@
 -- What a list's members say of the list: functions that are alike on them, and tests that they pass.
 use Rattle.std.proofs.Common.{◌≡◌, inl, inr, ℕ, zero, suc, ◌+◌, ◌≤◌, ◌<◌, List, [], ◌∷◌, ◌++◌, refl, ap, sym, ◌∙◌, subst, arith}
 use Rattle.std.specs.Prelude.{Bool, true, false, Option, Some, map, filter, flat_map, filter_map, Contains, cond, if◌then◌else◌, ◌&&◌, ◌||◌}
-use Rattle.std.specs.List.{range_with_len, list_any, list_all, cons_option}
+use Rattle.std.specs.List.{range_with_len, find, list_any, list_all, cons_option}
 use Rattle.std.proofs.lemmas.Bool.{cases_lt}
-use Rattle.std.proofs.lemmas.List.Elements.{Contains-append_left, Contains-append_right}
+use Rattle.std.proofs.lemmas.List.Elements.{Contains-append_cases, Contains-append_left, Contains-append_right}
 use Rattle.qx_geom.proofs.Members.{Contains-cases, Contains-cons, Contains-head}
 use Rattle.qx_geom.proofs.Truths.{and_left, and_right}
-use Rattle.qx_geom.specs.Lists.{each_below, first_below, first_from}
+use Rattle.qx_geom.specs.Lists.{each_below, first_below}
 
 -- ---- the numbers below a bound
 
@@ -67,7 +67,7 @@ all_alike p q [] same = refl
 all_alike p q (x ∷ xs) same = λ i. same x (Contains-head x xs) i && all_alike p q xs (λ y c. same y (Contains-cons x y xs c)) i
 
 -- the first number of a range that passes
-from_alike : (p q : ℕ → Bool) (at n : ℕ) → ((k : ℕ) → at ≤ k → k < at + n → p k ≡ q k) → first_from p at n ≡ first_from q at n
+from_alike : (p q : ℕ → Bool) (at n : ℕ) → ((k : ℕ) → at ≤ k → k < at + n → p k ≡ q k) → find p (range_with_len at n) ≡ find q (range_with_len at n)
 from_alike p q at zero same = refl
 from_alike p q at (suc n) same = λ i. if same at (omega arith) (omega arith) i then Some at else from_alike p q (at + 1) n (λ k low high. same k (omega arith) (omega arith)) i
 
@@ -135,4 +135,12 @@ member_passes p [] x e c = absurd (omega (arith, c.1))
 member_passes p (y ∷ ys) x e c = elim (Contains-cases y x ys c) [
   | inl here ↦ ap p (sym here) ∙ and_left (p y) (list_all p ys) e
   | inr there ↦ member_passes p ys x (and_right (p y) (list_all p ys) e) there
+]
+
+-- and a member of the parts end to end is one of a part
+pub flat_map_members : {X A : Type 0} (f : X → List A) (xs : List X) (a : A) → Contains (flat_map f xs) a → (x : X) × Contains xs x × Contains (f x) a
+flat_map_members f [] a c = absurd (omega (arith, c.1))
+flat_map_members f (x ∷ xs) a c = elim (Contains-append_cases (f x) (flat_map f xs) a c) [
+  | inl here ↦ (x, Contains-head x xs, here)
+  | inr there ↦ let r = flat_map_members f xs a there in (r.0, Contains-cons x r.0 xs r.1, r.2)
 ]

@@ -19,11 +19,11 @@ use Rattle.qx_records.specs.NameRecord.{Bad, Long, RawRecord, Short, Unused}
 use Rattle.qx_view.proofs.PassingTests.{NodePasses, Passing, node_passes, passing_each, passing_parts}
 use Rattle.qx_view.proofs.TestOrder.{met_once}
 use Rattle.qx_view.proofs.TreeFound.{TakenWith, body_found, entry_found, in_entry, parent_in, tree_found, tree_places}
-use Rattle.qx_view.proofs.TreeFromTests.{beside_parts, each, it_of, kind_passes, root_parts, rooted}
+use Rattle.qx_view.proofs.TreeFromTests.{each, further_parts, it_of, kind_passes, root_parts, rooted}
 use Rattle.qx_view.proofs.WalkEnds.{inodes}
 use Rattle.qx_view.specs.Images.{Roots, has_inode, long_name, raw_of, record_block}
-use Rattle.qx_view.specs.Reading.{HasNode, IsApart, IsTreeOf, IsUndamaged, OfBeside, OfInode, OfInodes, OfLongfile, Owner, StandsAt, slot_of}
-use Rattle.qx_view.specs.Walk.{Met, Place, Taken, Test, Tested, finding_of, inode_mode, inode_root, inode_tests, is_directory_inode, kind_tests, met_of, node_tests, record_tests, records_tests, root_tests, row_tests, slot_name, taken_of, target_of, tests_of, top_tests, visit_tests}
+use Rattle.qx_view.specs.Reading.{HasNode, IsApart, IsTreeOf, IsUndamaged, OfFurther, OfInode, OfInodes, OfLongfile, Owner, StandsAt, slot_of}
+use Rattle.qx_view.specs.Walk.{Met, Place, Taken, Test, Tested, finding_of, inode_mode, inode_root, inode_tests, is_directory_inode, kind_tests, met_of, named_inode, node_tests, record_tests, records_tests, root_tests, row_tests, slot_name, taken_of, tests_of, top_tests, visit_tests}
 
 -- what tests end to end meet
 met_of-append : (as' bs : List Test) → met_of (as' ++ bs) ≡ met_of as' ++ met_of bs
@@ -65,10 +65,10 @@ differ_same f (x ∷ xs) a b e c d same =
 abbrev pub placed : BlockMap → Owner → Root → List (Owner × Visit)
 placed m o node = map (λ v. (o, v)) (visits_of m node)
 
--- those of the nodes beside
-abbrev pub placed_beside : BlockMap → ℕ → List Root → List (Owner × Visit)
-placed_beside m k [] = []
-placed_beside m k (node ∷ nodes) = placed m (OfBeside k) node ++ placed_beside m (suc k) nodes
+-- those of the further nodes
+abbrev pub placed_further : BlockMap → ℕ → List Root → List (Owner × Visit)
+placed_further m k [] = []
+placed_further m k (node ∷ nodes) = placed m (OfFurther k) node ++ placed_further m (suc k) nodes
 
 -- those of an inode of a kind
 abbrev pub placed_kind : BlockMap → Roots → ℕ → Option Kind → List (Owner × Visit)
@@ -84,7 +84,7 @@ placed_taken m r t = placed_kind m r t.inode (kind_of (inode_mode m r t.inode))
 
 -- all positions, in the order of the walk
 abbrev pub all_placed : BlockMap → Roots → List (Owner × Visit)
-all_placed m r = placed m OfInodes r.inodes ++ placed m OfLongfile r.longfile ++ placed_beside m 0 r.beside ++ flat_map (placed_taken m r) (taken_of m r)
+all_placed m r = placed m OfInodes r.inodes ++ placed m OfLongfile r.longfile ++ placed_further m 0 r.further ++ flat_map (placed_taken m r) (taken_of m r)
 
 -- the block at a position
 abbrev pub block_at : Owner × Visit → ℕ
@@ -99,13 +99,13 @@ met_visits m i o (v ∷ vs) = ap (λ z. v.block ∷ z) (met_visits m i o vs)
 met_node : (m : BlockMap) (i : ℕ) (o : Owner) (node : Root) (fits : Bool) → met_of (node_tests m i node fits) ≡ map block_at (placed m o node)
 met_node m i o node fits = met_visits m i o (visits_of m node)
 
--- of the nodes beside
-met_beside : (m : BlockMap) (k : ℕ) (nodes : List Root) → met_of (flat_map (root_tests m) nodes) ≡ map block_at (placed_beside m k nodes)
-met_beside m k [] = refl
-met_beside m k (node ∷ nodes) =
+-- of the further nodes
+met_further : (m : BlockMap) (k : ℕ) (nodes : List Root) → met_of (flat_map (root_tests m) nodes) ≡ map block_at (placed_further m k nodes)
+met_further m k [] = refl
+met_further m k (node ∷ nodes) =
     met_of-append (root_tests m node) (flat_map (root_tests m) nodes)
-    ∙ (λ i. met_node m 0 (OfBeside k) node (root_fits m node) i ++ met_beside m (suc k) nodes i)
-    ∙ sym (map-append block_at (placed m (OfBeside k) node) (placed_beside m (suc k) nodes))
+    ∙ (λ i. met_node m 0 (OfFurther k) node (root_fits m node) i ++ met_further m (suc k) nodes i)
+    ∙ sym (map-append block_at (placed m (OfFurther k) node) (placed_further m (suc k) nodes))
 
 -- of a row: nothing
 met_row : (m : BlockMap) (r : Roots) (at : Place) (names : List (List ℕ)) (listed : List ℕ) (n : ℕ) (name : List ℕ) → met_of (row_tests m r at names listed n name) ≡ []
@@ -127,7 +127,7 @@ met_records : (m : BlockMap) (r : Roots) (d p : ℕ) (node : Root) (names : List
 met_records m r d p node names listed [] = refl
 met_records m r d p node names listed (k ∷ ks) =
     met_of-append (record_tests m r (record { inode = d; parent = p; block = record_block m node k }) names listed (raw_of m node k)) _
-    ∙ (λ i. met_record m r (record { inode = d; parent = p; block = record_block m node k }) names listed (raw_of m node k) i ++ met_records m r d p node (slot_name (slot_of m r.longfile (raw_of m node k)) ++ names) (option_to_list (target_of m r.longfile (raw_of m node k)) ++ listed) ks i)
+    ∙ (λ i. met_record m r (record { inode = d; parent = p; block = record_block m node k }) names listed (raw_of m node k) i ++ met_records m r d p node (slot_name (slot_of m r.longfile (raw_of m node k)) ++ names) (option_to_list (named_inode m r.longfile (raw_of m node k)) ++ listed) ks i)
 
 -- nothing at the end
 append_nil : (xs : List ℕ) → xs ++ [] ≡ xs
@@ -162,16 +162,16 @@ pub met_all : (m : BlockMap) (r : Roots) → met_of (tests_of m r) ≡ map block
 met_all m r =
     let a : List Test = root_tests m r.inodes in
     let b : List Test = root_tests m r.longfile in
-    let c : List Test = flat_map (root_tests m) r.beside in
+    let c : List Test = flat_map (root_tests m) r.further in
     let d : List Test = top_tests m r in
     let e : List Test = flat_map (inode_tests m r) (taken_of m r) in
     let x : List (Owner × Visit) = placed m OfInodes r.inodes in
     let y : List (Owner × Visit) = placed m OfLongfile r.longfile in
-    let z : List (Owner × Visit) = placed_beside m 0 r.beside in
+    let z : List (Owner × Visit) = placed_further m 0 r.further in
     let w : List (Owner × Visit) = flat_map (placed_taken m r) (taken_of m r) in
     met_of-append (a ++ b ++ c ++ d) e
     ∙ ap (λ q. q ++ met_of e) (met_of-append (a ++ b ++ c) d ∙ append_nil (met_of (a ++ b ++ c)) ∙ met_of-append (a ++ b) c ∙ ap (λ q. q ++ met_of c) (met_of-append a b))
-    ∙ (λ i. met_node m 0 OfInodes r.inodes (root_fits m r.inodes) i ++ met_node m 0 OfLongfile r.longfile (root_fits m r.longfile) i ++ met_beside m 0 r.beside i ++ met_taken m r (taken_of m r) i)
+    ∙ (λ i. met_node m 0 OfInodes r.inodes (root_fits m r.inodes) i ++ met_node m 0 OfLongfile r.longfile (root_fits m r.longfile) i ++ met_further m 0 r.further i ++ met_taken m r (taken_of m r) i)
     ∙ sym (map-append block_at (x ++ y ++ z) w ∙ ap (λ q. q ++ map block_at w) (map-append block_at (x ++ y) z ∙ ap (λ q. q ++ map block_at z) (map-append block_at x y)))
 
 -- an element's image
@@ -192,16 +192,16 @@ Contains-flat f (z ∷ xs) x y c d =
       | inr there ↦ Contains-append_right (f z) (flat_map f xs) y (Contains-flat f xs x y there d)
     ]
 
--- a position of a node beside
-beside_placed : (m : BlockMap) (k j : ℕ) (nodes : List Root) (node : Root) (v : Visit) → slice_get nodes j ≡ Some node → Contains (visits_of m node) v → Contains (placed_beside m k nodes) (OfBeside (k + j), v)
-beside_placed m k j [] node v e c = absurd (cc)
-beside_placed m k zero (x ∷ nodes) node v e c =
+-- a position of a further node
+further_placed : (m : BlockMap) (k j : ℕ) (nodes : List Root) (node : Root) (v : Visit) → slice_get nodes j ≡ Some node → Contains (visits_of m node) v → Contains (placed_further m k nodes) (OfFurther (k + j), v)
+further_placed m k j [] node v e c = absurd (cc)
+further_placed m k zero (x ∷ nodes) node v e c =
     let is : x ≡ node = cc in
-    Contains-append_left (placed m (OfBeside k) x) (placed_beside m (suc k) nodes) (OfBeside (k + 0), v)
-    (subst (λ z. Contains (placed m (OfBeside k) x) (OfBeside z, v)) (omega arith) (Contains-map (λ v. (OfBeside k, v)) (visits_of m x) v (subst (λ z. Contains (visits_of m z) v) (sym is) c)))
-beside_placed m k (suc j) (x ∷ nodes) node v e c =
-    Contains-append_right (placed m (OfBeside k) x) (placed_beside m (suc k) nodes) (OfBeside (k + suc j), v)
-    (subst (λ z. Contains (placed_beside m (suc k) nodes) (OfBeside z, v)) (omega arith) (beside_placed m (suc k) j nodes node v e c))
+    Contains-append_left (placed m (OfFurther k) x) (placed_further m (suc k) nodes) (OfFurther (k + 0), v)
+    (subst (λ z. Contains (placed m (OfFurther k) x) (OfFurther z, v)) (omega arith) (Contains-map (λ v. (OfFurther k, v)) (visits_of m x) v (subst (λ z. Contains (visits_of m z) v) (sym is) c)))
+further_placed m k (suc j) (x ∷ nodes) node v e c =
+    Contains-append_right (placed m (OfFurther k) x) (placed_further m (suc k) nodes) (OfFurther (k + suc j), v)
+    (subst (λ z. Contains (placed_further m (suc k) nodes) (OfFurther z, v)) (omega arith) (further_placed m (suc k) j nodes node v e c))
 
 -- what stands at a place is a member
 pub slice_contains : {A : Type 0} (xs : List A) (k : ℕ) (x : A) → slice_get xs k ≡ Some x → Contains xs x
@@ -209,7 +209,7 @@ slice_contains [] k x e = absurd (cc)
 slice_contains (y ∷ xs) zero x e = let is : y ≡ x = cc in subst (λ z. Contains (y ∷ xs) z) is (Contains-head y xs)
 slice_contains (y ∷ xs) (suc k) x e = Contains-cons y x xs (slice_contains xs k x e)
 
--- the nodes beside are within the bounds
+-- the further nodes are within the bounds
 all_fit : (m : BlockMap) (nodes : List Root) → Passing (flat_map (root_tests m) nodes) → list_all (root_fits m) nodes ≡ true
 all_fit m [] p = refl
 all_fit m (x ∷ nodes) p =
@@ -245,29 +245,29 @@ module _ (m : BlockMap) (r : Roots) (s : HasSize m) (none : finding_of m r ≡ N
   undamaged : IsUndamaged m r (tree_found m r)
   undamaged OfInodes v (node, is, c) = (node_passes m 0 r.inodes (root_fits m r.inodes) (root_parts m r s none).0).undamaged v (subst (λ z. Contains (visits_of m z) v) is c)
   undamaged OfLongfile v (node, is, c) = (node_passes m 0 r.longfile (root_fits m r.longfile) (root_parts m r s none).1).undamaged v (subst (λ z. Contains (visits_of m z) v) is c)
-  undamaged (OfBeside k) v (node, at, c) = (node_passes m 0 node (root_fits m node) (passing_each (root_tests m) r.beside node (beside_parts m r s none).1 (slice_contains r.beside k node at))).undamaged v c
+  undamaged (OfFurther k) v (node, at, c) = (node_passes m 0 node (root_fits m node) (passing_each (root_tests m) r.further node (further_parts m r s none).1 (slice_contains r.further k node at))).undamaged v c
   undamaged (OfInode n) v (node, h, c) = let o : OwnNode n node = own_node n node h in o.pass.undamaged v (subst (λ z. Contains (visits_of m z) v) o.is c)
 
   -- each position of the tree is one that the walk met
-  stands_placed : (o : Owner) (v : Visit) → StandsAt m r (tree_found m r) o v → Contains (all_placed m r) (o, v)
+  pub stands_placed : (o : Owner) (v : Visit) → StandsAt m r (tree_found m r) o v → Contains (all_placed m r) (o, v)
   stands_placed OfInodes v (node, is, c) =
-      Contains-append_left (placed m OfInodes r.inodes ++ placed m OfLongfile r.longfile ++ placed_beside m 0 r.beside) (flat_map (placed_taken m r) (taken_of m r)) (OfInodes, v)
-      (Contains-append_left (placed m OfInodes r.inodes ++ placed m OfLongfile r.longfile) (placed_beside m 0 r.beside) (OfInodes, v)
+      Contains-append_left (placed m OfInodes r.inodes ++ placed m OfLongfile r.longfile ++ placed_further m 0 r.further) (flat_map (placed_taken m r) (taken_of m r)) (OfInodes, v)
+      (Contains-append_left (placed m OfInodes r.inodes ++ placed m OfLongfile r.longfile) (placed_further m 0 r.further) (OfInodes, v)
       (Contains-append_left (placed m OfInodes r.inodes) (placed m OfLongfile r.longfile) (OfInodes, v)
       (Contains-map (λ v. (OfInodes, v)) (visits_of m r.inodes) v (subst (λ z. Contains (visits_of m z) v) is c))))
   stands_placed OfLongfile v (node, is, c) =
-      Contains-append_left (placed m OfInodes r.inodes ++ placed m OfLongfile r.longfile ++ placed_beside m 0 r.beside) (flat_map (placed_taken m r) (taken_of m r)) (OfLongfile, v)
-      (Contains-append_left (placed m OfInodes r.inodes ++ placed m OfLongfile r.longfile) (placed_beside m 0 r.beside) (OfLongfile, v)
+      Contains-append_left (placed m OfInodes r.inodes ++ placed m OfLongfile r.longfile ++ placed_further m 0 r.further) (flat_map (placed_taken m r) (taken_of m r)) (OfLongfile, v)
+      (Contains-append_left (placed m OfInodes r.inodes ++ placed m OfLongfile r.longfile) (placed_further m 0 r.further) (OfLongfile, v)
       (Contains-append_right (placed m OfInodes r.inodes) (placed m OfLongfile r.longfile) (OfLongfile, v)
       (Contains-map (λ v. (OfLongfile, v)) (visits_of m r.longfile) v (subst (λ z. Contains (visits_of m z) v) is c))))
-  stands_placed (OfBeside k) v (node, at, c) =
-      Contains-append_left (placed m OfInodes r.inodes ++ placed m OfLongfile r.longfile ++ placed_beside m 0 r.beside) (flat_map (placed_taken m r) (taken_of m r)) (OfBeside k, v)
-      (Contains-append_right (placed m OfInodes r.inodes ++ placed m OfLongfile r.longfile) (placed_beside m 0 r.beside) (OfBeside k, v)
-      (subst (λ z. Contains (placed_beside m 0 r.beside) (OfBeside z, v)) (omega arith) (beside_placed m 0 k r.beside node v at c)))
+  stands_placed (OfFurther k) v (node, at, c) =
+      Contains-append_left (placed m OfInodes r.inodes ++ placed m OfLongfile r.longfile ++ placed_further m 0 r.further) (flat_map (placed_taken m r) (taken_of m r)) (OfFurther k, v)
+      (Contains-append_right (placed m OfInodes r.inodes ++ placed m OfLongfile r.longfile) (placed_further m 0 r.further) (OfFurther k, v)
+      (subst (λ z. Contains (placed_further m 0 r.further) (OfFurther z, v)) (omega arith) (further_placed m 0 k r.further node v at c)))
   stands_placed (OfInode n) v (node, h, c) =
       let o : OwnNode n node = own_node n node h in
       let u : TakenWith (taken_of m r) n (parent_in (taken_of m r) n) = it_of m r s none n o.walked in
-      Contains-append_right (placed m OfInodes r.inodes ++ placed m OfLongfile r.longfile ++ placed_beside m 0 r.beside) (flat_map (placed_taken m r) (taken_of m r)) (OfInode n, v)
+      Contains-append_right (placed m OfInodes r.inodes ++ placed m OfLongfile r.longfile ++ placed_further m 0 r.further) (flat_map (placed_taken m r) (taken_of m r)) (OfInode n, v)
       (Contains-flat (placed_taken m r) (taken_of m r) u.it (OfInode n, v) u.among (subst (λ z. Contains (placed_kind m r z (kind_of (inode_mode m r z))) (OfInode n, v)) (sym u.inode) (o.placed v c)))
 
   -- no block stands at two positions of the tree
@@ -282,7 +282,7 @@ module _ (m : BlockMap) (r : Roots) (s : HasSize m) (none : finding_of m r ≡ N
   tree_is = record {
     inodes_fit = (node_passes m 0 r.inodes (root_fits m r.inodes) (root_parts m r s none).0).fit;
     longfile_fits = (node_passes m 0 r.longfile (root_fits m r.longfile) (root_parts m r s none).1).fit;
-    beside_fit = all_fit m r.beside (beside_parts m r s none).1;
+    further_fit = all_fit m r.further (further_parts m r s none).1;
     rooted = rooted m r s none;
     places = tree_places m r;
     each = each m r s none;

@@ -14,8 +14,12 @@ pub mod Verdicts
 pub mod AlikeLists
 pub mod SystemTrees
 pub mod OuterNodes
+pub mod MetBlocks
+pub mod HoleRecords
+pub mod HollowTop
 pub mod ActiveHalf
 pub mod NodesAlike
 pub mod WalkAlike
 pub mod ReasonsAlike
 pub mod SoundLocality
+pub mod SmallImages

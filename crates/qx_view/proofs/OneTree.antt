@@ -1,10 +1,11 @@
 -- The roots determine the tree.
 use Rattle.std.proofs.Common.{◌≡◌, ℕ, suc, List, [], ◌∷◌, length, refl, sym, ◌∙◌, ap, subst, arith}
 use Rattle.std.specs.Prelude.{Option, Some, None, map, slice_get}
+use Rattle.std.specs.Option.{option_flatten}
 use Rattle.qx_geom.specs.declared.root.Root.{Root}
 use Rattle.qx_records.specs.declared.kind.Kind.{Kind}
 use Rattle.qx_records.specs.declared.kind.Kind.TheVariants as kinds
-use Rattle.qx_model.specs.Tree.{Body, Directory, Entry, File, IsDirectoryIn, Link, Names, Reached, Slot, Special, Tree, down, entry_of, flat, slots_of_entry, top}
+use Rattle.qx_model.specs.Tree.{Body, Directory, Entry, File, IsDirectory, Link, Names, Reached, Slot, Special, Tree, down, entry_of, slots_of_entry, top}
 use Rattle.qx_nodes.specs.BlockMap.{BlockMap}
 use Rattle.qx_records.specs.InodeRecord.{kind_of}
 use Rattle.qx_view.specs.Images.{Roots, inode_of}
@@ -82,7 +83,7 @@ entry_same m r n a b same x y =
     kind_same m r.longfile (inode_of m r.inodes n).root y.kind a b attr same (subst (λ k. IsOfKind m r.longfile (inode_of m r.inodes n).root k a) kind x.holds) y.holds
 
 -- a directory has one parent
-pub parent_same : (t : Tree) (d p q : ℕ) → IsDirectoryIn t d p → IsDirectoryIn t d q → p ≡ q
+pub parent_same : (t : Tree) (d p q : ℕ) → IsDirectory t d p → IsDirectory t d q → p ≡ q
 parent_same t d p q (e, slots, at, body) (e', slots', at', body') = cc
 
 -- what an inode that both trees reach is in both
@@ -98,7 +99,7 @@ names_over t u d n same (k, (s, at, named)) = (k, (s, subst (λ o. slice_get (sl
 
 module _ (m : BlockMap) (r : Roots) (t u : Tree) (is : IsTreeOf m r t) (also : IsTreeOf m r u) where
   -- the parent of what d names is d, in a tree
-  parent_is : (x : Tree) → IsTreeOf m r x → (d n p : ℕ) → Names x d n → IsDirectoryIn x n p → p ≡ d
+  parent_is : (x : Tree) → IsTreeOf m r x → (d n p : ℕ) → Names x d n → IsDirectory x n p → p ≡ d
   parent_is x y d n p (k, at) dir =
       let up : Names x p n = y.rooted.parent n p dir (λ e. y.rooted.no_top d (subst (λ z. Names x d z) e (k, at))) in
       (y.rooted.once p up.0 d k n p up.1 at dir).0
@@ -129,7 +130,7 @@ option_cases P None none some = none refl
 option_cases P (Some x) none some = some x refl
 
 -- places with the same entries are one list
-places_same : (xs ys : List (Option Entry)) → length xs ≡ length ys → ((n : ℕ) → flat (slice_get xs n) ≡ flat (slice_get ys n)) → xs ≡ ys
+places_same : (xs ys : List (Option Entry)) → length xs ≡ length ys → ((n : ℕ) → option_flatten (slice_get xs n) ≡ option_flatten (slice_get ys n)) → xs ≡ ys
 places_same [] [] e same = refl
 places_same [] (y ∷ ys) e same = absurd (omega (arith, e))
 places_same (x ∷ xs) [] e same = absurd (omega (arith, e))

@@ -9,16 +9,17 @@ use Rattle.qx_geom.proofs.Members.{Contains-cases}
 use Rattle.qx_geom.proofs.Truths.{not_true, or_left, or_right}
 use Rattle.qx_geom.specs.Lists.{is_in}
 use Rattle.qx_geom.specs.Pointer.{absent}
-use Rattle.qx_model.specs.Tree.{Free, Row, Slot, is_dots, named_by}
+use Rattle.qx_model.specs.Tree.{Row, Slot, Unused, is_dots, named_by}
 use Rattle.qx_nodes.specs.BlockMap.{BlockMap}
 use Rattle.qx_nodes.specs.Visits.{Visit, visits_of}
 use Rattle.qx_records.specs.InodeRecord.{kind_of}
-use Rattle.qx_records.specs.NameRecord.{Bad, Long, RawRecord, Short, Unused}
+use Rattle.qx_records.specs.NameRecord.{Bad, Long, RawRecord, Short}
+use Rattle.qx_records.specs.NameRecord as records
 use Rattle.qx_records.specs.NameSum.{sum_fits}
 use Rattle.qx_view.proofs.TestOrder.{first_failing-append, gone_through, if_none, or_else}
 use Rattle.qx_view.specs.Images.{Roots, has_inode, long_name, raw_of, record_block}
 use Rattle.qx_view.specs.Reading.{is_plain, long_slot, slot_of}
-use Rattle.qx_view.specs.Walk.{Finding, Met, Place, Test, Tested, first_failing, inode_mode, is_directory_inode, node_tests, record_tests, records_tests, row_tests, slot_name, target_of, visit_tests}
+use Rattle.qx_view.specs.Walk.{Finding, Met, Place, Test, Tested, first_failing, inode_mode, is_directory_inode, named_inode, node_tests, record_tests, records_tests, row_tests, slot_name, visit_tests}
 
 -- no member of the list fails, whatever was met before
 pub record Passing (es : List Test) : Type 0 where
@@ -99,12 +100,12 @@ row_passes m r at names listed n name p =
 
 -- what a record that passes says
 abbrev pub SlotPasses : BlockMap → Roots → Place → List (List ℕ) → List ℕ → Slot → Type 0
-SlotPasses m r at names listed Free = Unit {0}
+SlotPasses m r at names listed Unused = Unit {0}
 SlotPasses m r at names listed (Row n name long) = RowPasses m r at.inode at.parent names listed n name
 
 -- a record's tests
 pub record_passes : (m : BlockMap) (r : Roots) (at : Place) (names : List (List ℕ)) (listed : List ℕ) (raw : RawRecord) → Passing (record_tests m r at names listed raw) → (s : Slot) × (slot_of m r.longfile raw ≡ Some s) × SlotPasses m r at names listed s
-record_passes m r at names listed Unused p = (Free, refl, tt)
+record_passes m r at names listed records.Unused p = (Unused, refl, tt)
 record_passes m r at names listed (Bad count) p = absurd (let h : (false ≡ true) × Passing [] = passing_tested 7 at.inode at.block false [] p in let e : false ≡ true = h.0 in cc)
 record_passes m r at names listed (Short n name) p = (Row n name None, refl, row_passes m r at names listed n name (passing_tested 7 at.inode at.block true _ p).1)
 record_passes m r at names listed (Long n number sum) p = go (long_name m r.longfile number) (passing_tested 7 at.inode at.block true _ p).1
@@ -120,7 +121,7 @@ record_passes m r at names listed (Long n number sum) p = go (long_name m r.long
 -- each down passes, where these names and inodes came before the earlier
 abbrev pub SlotsPass : BlockMap → Roots → ℕ → ℕ → List (List ℕ) → List ℕ → List Slot → Type 0
 SlotsPass m r d p names listed [] = Unit {0}
-SlotsPass m r d p names listed (Free ∷ slots) = SlotsPass m r d p names listed slots
+SlotsPass m r d p names listed (Unused ∷ slots) = SlotsPass m r d p names listed slots
 SlotsPass m r d p names listed (Row n name long ∷ slots) = RowPasses m r d p names listed n name × SlotsPass m r d p (name ∷ names) (option_to_list (named_by (Row n name long)) ++ listed) slots
 
 -- the tests of a directory's records
@@ -130,7 +131,7 @@ records_pass m r d p node names listed [] q = ([], refl, tt)
 records_pass m r d p node names listed (k ∷ ks) q =
     let at : Place = record { inode = d; parent = p; block = record_block m node k } in
     let raw : RawRecord = raw_of m node k in
-    let parts : Passing (record_tests m r at names listed raw) × Passing (records_tests m r d p node (slot_name (slot_of m r.longfile raw) ++ names) (option_to_list (target_of m r.longfile raw) ++ listed) ks)
+    let parts : Passing (record_tests m r at names listed raw) × Passing (records_tests m r d p node (slot_name (slot_of m r.longfile raw) ++ names) (option_to_list (named_inode m r.longfile raw) ++ listed) ks)
     = passing_parts (record_tests m r at names listed raw) _ q in
     let one : (s : Slot) × (slot_of m r.longfile raw ≡ Some s) × SlotPasses m r at names listed s = record_passes m r at names listed raw parts.0 in
     go one.0 one.1 one.2 (slot_of m r.longfile raw) refl
@@ -141,8 +142,8 @@ records_pass m r d p node names listed (k ∷ ks) q =
         → (o : Option Slot) → slot_of m r.longfile (raw_of m node k) ≡ o
         → ((z : Option Slot) → slot_of m r.longfile (raw_of m node k) ≡ z → (slots : List Slot) × (map (λ k. slot_of m r.longfile (raw_of m node k)) ks ≡ map (λ s. Some s) slots) × SlotsPass m r d p (slot_name z ++ names) (option_to_list (option_and_then named_by z) ++ listed) slots)
         → (slots : List Slot) × (slot_of m r.longfile (raw_of m node k) ∷ map (λ k. slot_of m r.longfile (raw_of m node k)) ks ≡ map (λ s. Some s) slots) × SlotsPass m r d p names listed slots
-    go Free is pass o _ more = let rest : (slots : List Slot) × (map (λ k. slot_of m r.longfile (raw_of m node k)) ks ≡ map (λ s. Some s) slots) × SlotsPass m r d p names listed slots = more (Some Free) is in
-        (Free ∷ rest.0, (λ i. is i ∷ rest.1 i), rest.2)
+    go Unused is pass o _ more = let rest : (slots : List Slot) × (map (λ k. slot_of m r.longfile (raw_of m node k)) ks ≡ map (λ s. Some s) slots) × SlotsPass m r d p names listed slots = more (Some Unused) is in
+        (Unused ∷ rest.0, (λ i. is i ∷ rest.1 i), rest.2)
     go (Row n name long) is pass o _ more = let rest : (slots : List Slot) × (map (λ k. slot_of m r.longfile (raw_of m node k)) ks ≡ map (λ s. Some s) slots) × SlotsPass m r d p (name ∷ names) (option_to_list (named_by (Row n name long)) ++ listed) slots = more (Some (Row n name long)) is in
         (Row n name long ∷ rest.0, (λ i. is i ∷ rest.1 i), (pass, rest.2))
 
@@ -150,8 +151,8 @@ records_pass m r d p node names listed (k ∷ ks) q =
 pub row_at : (m : BlockMap) (r : Roots) (d p : ℕ) (names : List (List ℕ)) (listed : List ℕ) (slots : List Slot) → SlotsPass m r d p names listed slots
     → (k n : ℕ) (name : List ℕ) (long : Option ℕ) → slice_get slots k ≡ Some (Row n name long) → (before : List (List ℕ)) × (after : List ℕ) × RowPasses m r d p before after n name
 row_at m r d p names listed [] q k n name long e = absurd (cc)
-row_at m r d p names listed (Free ∷ slots) q zero n name long e = absurd (cc)
-row_at m r d p names listed (Free ∷ slots) q (suc k) n name long e = row_at m r d p names listed slots q k n name long e
+row_at m r d p names listed (Unused ∷ slots) q zero n name long e = absurd (cc)
+row_at m r d p names listed (Unused ∷ slots) q (suc k) n name long e = row_at m r d p names listed slots q k n name long e
 row_at m r d p names listed (Row i other l ∷ slots) q zero n name long e =
     let a : i ≡ n = cc in let b : other ≡ name = cc in (names, listed, subst (λ z. RowPasses m r d p names listed z name) a (subst (λ z. RowPasses m r d p names listed i z) b q.0))
 row_at m r d p names listed (Row i other l ∷ slots) q (suc k) n name long e = row_at m r d p (other ∷ names) (option_to_list (named_by (Row i other l)) ++ listed) slots q.1 k n name long e
@@ -165,8 +166,8 @@ same_name (x ∷ xs) = ap (λ b. b && bytes_eq xs xs) (eq-eqb x x refl) ∙ same
 fresh_name : (m : BlockMap) (r : Roots) (d p : ℕ) (names : List (List ℕ)) (listed : List ℕ) (slots : List Slot) → SlotsPass m r d p names listed slots
     → (k n : ℕ) (name : List ℕ) (long : Option ℕ) → slice_get slots k ≡ Some (Row n name long) → list_any (λ other. bytes_eq other name) names ≡ false
 fresh_name m r d p names listed [] q k n name long e = absurd (cc)
-fresh_name m r d p names listed (Free ∷ slots) q zero n name long e = absurd (cc)
-fresh_name m r d p names listed (Free ∷ slots) q (suc k) n name long e = fresh_name m r d p names listed slots q k n name long e
+fresh_name m r d p names listed (Unused ∷ slots) q zero n name long e = absurd (cc)
+fresh_name m r d p names listed (Unused ∷ slots) q (suc k) n name long e = fresh_name m r d p names listed slots q k n name long e
 fresh_name m r d p names listed (Row i other l ∷ slots) q zero n name long e =
     let b : other ≡ name = cc in subst (λ z. list_any (λ x. bytes_eq x z) names ≡ false) b q.0.new
 fresh_name m r d p names listed (Row i other l ∷ slots) q (suc k) n name long e =
@@ -184,9 +185,9 @@ clash m r d p names listed slots earlier name q k n long e is =
 pub names_differ : (m : BlockMap) (r : Roots) (d p : ℕ) (names : List (List ℕ)) (listed : List ℕ) (slots : List Slot) → SlotsPass m r d p names listed slots
     → (k j n i : ℕ) (name : List ℕ) (a b : Option ℕ) → slice_get slots k ≡ Some (Row n name a) → slice_get slots j ≡ Some (Row i name b) → k ≡ j
 names_differ m r d p names listed [] q k j n i name a b e f = absurd (cc)
-names_differ m r d p names listed (Free ∷ slots) q zero j n i name a b e f = absurd (cc)
-names_differ m r d p names listed (Free ∷ slots) q (suc k) zero n i name a b e f = absurd (cc)
-names_differ m r d p names listed (Free ∷ slots) q (suc k) (suc j) n i name a b e f = ap (λ z. suc z) (names_differ m r d p names listed slots q k j n i name a b e f)
+names_differ m r d p names listed (Unused ∷ slots) q zero j n i name a b e f = absurd (cc)
+names_differ m r d p names listed (Unused ∷ slots) q (suc k) zero n i name a b e f = absurd (cc)
+names_differ m r d p names listed (Unused ∷ slots) q (suc k) (suc j) n i name a b e f = ap (λ z. suc z) (names_differ m r d p names listed slots q k j n i name a b e f)
 names_differ m r d p names listed (Row x other l ∷ slots) q zero zero n i name a b e f = refl
 names_differ m r d p names listed (Row x other l ∷ slots) q zero (suc j) n i name a b e f =
     let is : other ≡ name = cc in absurd (clash m r d p names (option_to_list (named_by (Row x other l)) ++ listed) slots other name q.1 j i b f is)
@@ -199,9 +200,9 @@ names_differ m r d p names listed (Row x other l ∷ slots) q (suc k) (suc j) n 
 pub fresh_directory : (m : BlockMap) (r : Roots) (d p : ℕ) (names : List (List ℕ)) (listed : List ℕ) (slots : List Slot) → SlotsPass m r d p names listed slots
     → (k n : ℕ) (s : Slot) → slice_get slots k ≡ Some s → named_by s ≡ Some n → is_directory_inode m r n ≡ true → is_in listed n ≡ false
 fresh_directory m r d p names listed [] q k n s e f g = absurd (cc)
-fresh_directory m r d p names listed (Free ∷ slots) q zero n s e f g =
-    let is : Free ≡ s = cc in let h : None ≡ Some n = subst (λ z. named_by z ≡ Some n) (sym is) f in absurd (cc)
-fresh_directory m r d p names listed (Free ∷ slots) q (suc k) n s e f g = fresh_directory m r d p names listed slots q k n s e f g
+fresh_directory m r d p names listed (Unused ∷ slots) q zero n s e f g =
+    let is : Unused ≡ s = cc in let h : None ≡ Some n = subst (λ z. named_by z ≡ Some n) (sym is) f in absurd (cc)
+fresh_directory m r d p names listed (Unused ∷ slots) q (suc k) n s e f g = fresh_directory m r d p names listed slots q k n s e f g
 fresh_directory m r d p names listed (Row i other l ∷ slots) q zero n s e f g =
     let is : Row i other l ≡ s = cc in
     go (is_dots other) refl (subst (λ z. named_by z ≡ Some n) (sym is) f)

@@ -1,11 +1,12 @@
 -- Where blocks agree on what a tree holds, the same reasons apply from 3 on, and the same is found last.
 use Rattle.std.proofs.Common.{◌≡◌, inl, inr, ℕ, zero, suc, ◌+◌, ◌-◌, ◌*◌, ◌/◌, ◌%◌, ◌≤◌, ◌<◌, List, [], ◌∷◌, length, refl, ap, ◌∙◌, arith}
-use Rattle.std.specs.Prelude.{Bool, true, false, not, ◌&&◌, ◌||◌, ◌==◌, Some, None, Contains, count_by, drop, filter, filter_map, flat_map, if◌then◌else◌, slice_index}
+use Rattle.std.specs.Prelude.{Bool, true, false, not, ◌&&◌, ◌||◌, ◌==◌, Some, None, Contains, count_by, drop, filter, filter_map, flat_map, if◌then◌else◌, slice_get, slice_index}
 use Rattle.std.specs.Int.{bit_at}
+use Rattle.std.specs.List.{find, range_with_len}
 use Rattle.std.proofs.lemmas.Bool.{cases_lt, eqb-false, eqb-true, le-leb}
 use Rattle.std.proofs.lemmas.Nat.{div-add-mod', mul-le}
 use Rattle.qx_geom.proofs.Truths.{not_true, or_left, or_right}
-use Rattle.qx_geom.specs.Lists.{each_below, first_below, first_from, is_in}
+use Rattle.qx_geom.specs.Lists.{each_below, first_below, is_in}
 use Rattle.qx_geom.specs.declared.geometry.Geometry.{Geometry}
 use Rattle.qx_geom.specs.declared.root.Root.{Root}
 use Rattle.qx_model.specs.Tree.{Entry, Tree, entry_of}
@@ -22,15 +23,15 @@ use Rattle.qx_view.proofs.TreeLocality.{place_within, record_below}
 use Rattle.qx_view.proofs.WalkAlike.{directory_not_special, entered, in_walk, inodes_agrees, longfile_agrees, node_agrees, same_inode}
 use Rattle.qx_view.specs.Images.{Roots, inode_bytes, inode_places, raw_of}
 use Rattle.qx_view.specs.Reading.{IsHeld, IsTreeOf}
-use Rattle.qx_view.specs.Sound.{are_zero, bad_long_name, bit_differs, fails_dots, fails_inodes, fails_nodes, fails_tail, first_item, has_tail, is_foreign_directory, is_foreign_node, is_short, is_special_inode, is_special_kind, long_number, must_be_set, numbers_named}
+use Rattle.qx_view.specs.Sound.{are_zero, bad_long_name, bit_differs, fails_dots, fails_inodes, fails_nodes, fails_tail, has_tail, is_foreign_directory, is_foreign_node, is_short, is_special_inode, is_special_kind, long_number, must_be_set, numbers_named}
 use Rattle.qx_view.specs.Walk.{inode_mode, inode_root, is_directory_inode, is_directory_kind, walked_inodes}
 
 -- where no number below a bound passes, each fails
-none_from : (test : ℕ → Bool) (at n k : ℕ) → first_from test at n ≡ None → at ≤ k → k < at + n → test k ≡ false
+none_from : (test : ℕ → Bool) (at n k : ℕ) → find test (range_with_len at n) ≡ None → at ≤ k → k < at + n → test k ≡ false
 none_from test at zero k e low high = absurd (omega arith)
 none_from test at (suc n) k e low high = go (test at) refl e (λ f above. none_from test (at + 1) n k f above (omega arith))
   where
-    go : (b : Bool) → test at ≡ b → (if b then Some at else first_from test (at + 1) n) ≡ None → (first_from test (at + 1) n ≡ None → at + 1 ≤ k → test k ≡ false) → test k ≡ false
+    go : (b : Bool) → test at ≡ b → (if b then Some at else find test (range_with_len (at + 1) n)) ≡ None → (find test (range_with_len (at + 1) n) ≡ None → at + 1 ≤ k → test k ≡ false) → test k ≡ false
     go true x e more = absurd (cc)
     go false x e more = elim (cases_lt at k) [ inl above ↦ more e (omega arith) | inr same ↦ let here : k ≡ at = omega arith in ap test here ∙ x ]
 
@@ -144,7 +145,7 @@ module _ (m : BlockMap) (g : ℕ → List ℕ) (r : Roots) (t : Tree) (size : Ha
 
   -- so the first long name that isn't named once
   pub bad_long_name_alike : bad_long_name m r (walked_inodes m r) ≡ bad_long_name (with_bytes m g) r (walked_inodes m r)
-  bad_long_name_alike = λ i. if not (r.longfile.size % m.size == 0) then Some 0 else first_item (filter (λ n. not (count_by (λ k. k == n) (numbers_alike i) == 1)) (present_alike m g r.longfile (longfile_agrees m g r t size is held) i))
+  bad_long_name_alike = λ i. if not (r.longfile.size % m.size == 0) then Some 0 else slice_get (filter (λ n. not (count_by (λ k. k == n) (numbers_alike i) == 1)) (present_alike m g r.longfile (longfile_agrees m g r t size is held) i)) 0
 
   -- whether a node has a tail
   pub fails_tail_alike : (n : ℕ) → fails_tail m r (walked_inodes m r) n ≡ fails_tail (with_bytes m g) r (walked_inodes m r) n

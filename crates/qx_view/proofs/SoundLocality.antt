@@ -32,10 +32,10 @@ use Rattle.qx_view.proofs.AlikeLists.{all_alike, below_members, first_alike}
 use Rattle.qx_view.proofs.ImageTrees.{HasSize-image_blocks, some_same}
 use Rattle.qx_view.proofs.ReasonsAlike.{bad_long_name_alike, bit_alike, fails_dots_alike, fails_inodes_alike, fails_nodes_alike, fails_tail_alike, none_below}
 use Rattle.qx_view.proofs.TreeLocality.{place_within, tree_local}
-use Rattle.qx_view.proofs.WalkAlike.{beside_agrees, outer_alike, walked_alike}
+use Rattle.qx_view.proofs.WalkAlike.{further_agrees, outer_alike, walked_alike}
 use Rattle.qx_view.specs.Images.{Roots, block_bytes, image_blocks, inode_of, inode_places, main_roots}
-use Rattle.qx_view.specs.Reading.{HasNode, IsEntry, IsHeld, IsTreeOf, OfBeside, OfInode, OfInodes, OfLongfile, Owner}
-use Rattle.qx_view.specs.Sound.{IsSound, Reason, are_counts_right, are_halves, bad_long_name, bit_differs, fails_dots, fails_inodes, fails_nodes, fails_tail, first_some, is_half, is_same_root, is_system_tree, last_finding, last_with, outer_blocks, reason_at, reason_in, reason_of, reason_with, tail_finding, written_geometry}
+use Rattle.qx_view.specs.Reading.{HasNode, IsEntry, IsHeld, IsTreeOf, OfFurther, OfInode, OfInodes, OfLongfile, Owner}
+use Rattle.qx_view.specs.Sound.{IsSound, are_counts_right, bad_long_name, bit_differs, fails_dots, fails_inodes, fails_nodes, fails_tail, first_some, has_system_trees, is_laid_out, is_same_root, is_system_tree, last_finding, last_with, outer_blocks, reason_at, reason_of, reason_with, reasons_in, tail_finding, written_geometry}
 use Rattle.qx_view.specs.Walk.{walked_inodes}
 
 -- ---- the halves
@@ -60,21 +60,10 @@ module _ (m : BlockMap) (bytes : ℕ → List ℕ) (g : Geometry) (volume : IsGe
       all_alike _ _ (each_below (per_block m.size) (λ w. w)) (λ w e. ap (λ bs. field m.order 4 bs (4 * w) == system_pointer m.size (tree_base g which bitmap) (tree_leaves g bitmap) k (j * per_block m.size + w)) alike)))
 
   -- so is a half
-  half_alike : (which : Which) → ((bitmap : Bool) (b : ℕ) → IsPointerBlock g which bitmap b → m.bytes b ≡ bytes b) → is_half m g which ≡ is_half (with_bytes m bytes) g which
+  half_alike : (which : Which) → ((bitmap : Bool) (b : ℕ) → IsPointerBlock g which bitmap b → m.bytes b ≡ bytes b) → has_system_trees m g which ≡ has_system_trees (with_bytes m bytes) g which
   half_alike which same = λ i. system_tree_alike which true (same true) i && system_tree_alike which false (same false) i
 
 -- ---- the reasons
-
--- the reasons from 2 on, by the blocks outside the halves
-abbrev reasons_by : BlockMap → Superblock → Geometry → Which → Roots → List ℕ → List ℕ → List (Option Reason)
-reasons_by m s g which r blocks reached =
-    reason_at 2 (if are_halves m s g which && list_all (λ b. nat_le (2 * g.half) b) blocks then None else Some 0)
-    ∷ reason_at 3 (first_below (bit_differs m s.bitmap g blocks) (g.bitmap_leaves * m.size * 8))
-    ∷ reason_at 4 (first_below (fails_nodes m r reached) (inode_places r + 1))
-    ∷ reason_at 5 (first_below (fails_dots m r reached) (inode_places r + 1))
-    ∷ reason_at 6 (first_below (fails_inodes m r reached) (inode_places r + 1))
-    ∷ reason_at 7 (bad_long_name m r reached)
-    ∷ []
 
 -- where the first of some is nothing, each is
 each_none : {A : Type 0} (os : List (Option A)) (k : ℕ) (o : Option A) → first_some os ≡ None → slice_get os k ≡ Some o → o ≡ None
@@ -85,13 +74,13 @@ each_none (Some x ∷ os) k o e at = absurd (cc)
 
 module _ (m : BlockMap) (bytes : ℕ → List ℕ) (s : Superblock) (t : Tree) (size : HasSize m) (is : IsTreeOf m (main_roots s) t) (held : (b : ℕ) → IsHeld m (main_roots s) t b → m.bytes b ≡ bytes b) where
   -- no reason applies, where none does and the words of both halves are the same
-  reasons_alike : (g : Geometry) (which : Which) → 64 ≤ m.size → leaves_below m s.bitmap ≡ g.bitmap_leaves → ((h : Which) → is_half m g h ≡ is_half (with_bytes m bytes) g h)
-      → reason_in m s g which (main_roots s) (walked_inodes m (main_roots s)) ≡ None → reason_in (with_bytes m bytes) s g which (main_roots s) (walked_inodes (with_bytes m bytes) (main_roots s)) ≡ None
+  pub reasons_alike : (g : Geometry) (which : Which) → 64 ≤ m.size → leaves_below m s.bitmap ≡ g.bitmap_leaves → ((h : Which) → has_system_trees m g h ≡ has_system_trees (with_bytes m bytes) g h)
+      → first_some (reasons_in m s g which (main_roots s) (outer_blocks m (main_roots s)) (walked_inodes m (main_roots s))) ≡ None → first_some (reasons_in (with_bytes m bytes) s g which (main_roots s) (outer_blocks (with_bytes m bytes) (main_roots s)) (walked_inodes (with_bytes m bytes) (main_roots s))) ≡ None
   reasons_alike g which large leaves halves none =
-      let nodes : first_below (fails_nodes m (main_roots s) (walked_inodes m (main_roots s))) (inode_places (main_roots s) + 1) ≡ None = reason_none 4 (first_below (fails_nodes m (main_roots s) (walked_inodes m (main_roots s))) (inode_places (main_roots s) + 1)) (each_none (reasons_by m s g which (main_roots s) (outer_blocks m (main_roots s)) (walked_inodes m (main_roots s))) 2 _ none refl) in
-      let e2 : (are_halves m s g which && list_all (λ b. nat_le (2 * g.half) b) (outer_blocks m (main_roots s))) ≡ (are_halves (with_bytes m bytes) s g which && list_all (λ b. nat_le (2 * g.half) b) (outer_blocks m (main_roots s))) =
+      let nodes : first_below (fails_nodes m (main_roots s) (walked_inodes m (main_roots s))) (inode_places (main_roots s) + 1) ≡ None = reason_none 4 (first_below (fails_nodes m (main_roots s) (walked_inodes m (main_roots s))) (inode_places (main_roots s) + 1)) (each_none (reasons_in m s g which (main_roots s) (outer_blocks m (main_roots s)) (walked_inodes m (main_roots s))) 2 _ none refl) in
+      let e2 : (is_laid_out m s g which && list_all (λ b. nat_le (2 * g.half) b) (outer_blocks m (main_roots s))) ≡ (is_laid_out (with_bytes m bytes) s g which && list_all (λ b. nat_le (2 * g.half) b) (outer_blocks m (main_roots s))) =
       λ i. (is_same_root s.bitmap (system_root_of g which true) && (is_same_root s.inode (system_root_of g which false) && (halves First i && halves Second i))) && list_all (λ b. nat_le (2 * g.half) b) (outer_blocks m (main_roots s)) in
-      let bitmap = beside_agrees m bytes (main_roots s) t size is held 0 s.bitmap refl (and_left _ _ (and_left _ _ is.beside_fit)) in
+      let bitmap = further_agrees m bytes (main_roots s) t size is held 0 s.bitmap refl (and_left _ _ (and_left _ _ is.further_fit)) in
       let e3 : first_below (bit_differs m s.bitmap g (outer_blocks m (main_roots s))) (g.bitmap_leaves * m.size * 8) ≡ first_below (bit_differs (with_bytes m bytes) s.bitmap g (outer_blocks m (main_roots s))) (g.bitmap_leaves * m.size * 8) =
       first_alike _ _ (g.bitmap_leaves * m.size * 8) (λ b low. bit_alike m bytes (main_roots s) t size is held s.bitmap g (outer_blocks m (main_roots s)) b bitmap
       (subst (λ n. b / 8 / m.size < n) (sym leaves) (div_below (b / 8) m.size g.bitmap_leaves size.size (div_below b 8 (g.bitmap_leaves * m.size) (omega arith) low)))) in
@@ -100,14 +89,14 @@ module _ (m : BlockMap) (bytes : ℕ → List ℕ) (s : Superblock) (t : Tree) (
       first_alike _ _ (inode_places (main_roots s) + 1) (λ n low. fails_dots_alike m bytes (main_roots s) t size is held large n (none_below (fails_nodes m (main_roots s) (walked_inodes m (main_roots s))) (inode_places (main_roots s) + 1) n nodes low)) in
       let e6 : first_below (fails_inodes m (main_roots s) (walked_inodes m (main_roots s))) (inode_places (main_roots s) + 1) ≡ first_below (fails_inodes (with_bytes m bytes) (main_roots s) (walked_inodes m (main_roots s))) (inode_places (main_roots s) + 1) = first_alike _ _ (inode_places (main_roots s) + 1) (λ n low. fails_inodes_alike m bytes (main_roots s) t size is held n low) in
       let e7 : bad_long_name m (main_roots s) (walked_inodes m (main_roots s)) ≡ bad_long_name (with_bytes m bytes) (main_roots s) (walked_inodes m (main_roots s)) = bad_long_name_alike m bytes (main_roots s) t size is held in
-      let same : first_some (reasons_by m s g which (main_roots s) (outer_blocks m (main_roots s)) (walked_inodes m (main_roots s))) ≡ first_some (reasons_by (with_bytes m bytes) s g which (main_roots s) (outer_blocks m (main_roots s)) (walked_inodes m (main_roots s))) =
+      let same : first_some (reasons_in m s g which (main_roots s) (outer_blocks m (main_roots s)) (walked_inodes m (main_roots s))) ≡ first_some (reasons_in (with_bytes m bytes) s g which (main_roots s) (outer_blocks m (main_roots s)) (walked_inodes m (main_roots s))) =
       λ i. first_some (reason_at 2 (if e2 i then None else Some 0) ∷ reason_at 3 (e3 i) ∷ reason_at 4 (e4 i) ∷ reason_at 5 (e5 i) ∷ reason_at 6 (e6 i) ∷ reason_at 7 (e7 i) ∷ []) in
-      let at_others : first_some (reasons_by (with_bytes m bytes) s g which (main_roots s) (outer_blocks m (main_roots s)) (walked_inodes m (main_roots s))) ≡ first_some (reasons_by (with_bytes m bytes) s g which (main_roots s) (outer_blocks (with_bytes m bytes) (main_roots s)) (walked_inodes (with_bytes m bytes) (main_roots s))) =
-      λ i. first_some (reasons_by (with_bytes m bytes) s g which (main_roots s) (outer_alike m bytes (main_roots s) t size is held i) (walked_alike m bytes (main_roots s) t size is held i)) in
+      let at_others : first_some (reasons_in (with_bytes m bytes) s g which (main_roots s) (outer_blocks m (main_roots s)) (walked_inodes m (main_roots s))) ≡ first_some (reasons_in (with_bytes m bytes) s g which (main_roots s) (outer_blocks (with_bytes m bytes) (main_roots s)) (walked_inodes (with_bytes m bytes) (main_roots s))) =
+      λ i. first_some (reasons_in (with_bytes m bytes) s g which (main_roots s) (outer_alike m bytes (main_roots s) t size is held i) (walked_alike m bytes (main_roots s) t size is held i)) in
       sym (same ∙ at_others) ∙ none
 
   -- the same is found last
-  last_alike : (o : Option Geometry) → last_with m s o ≡ last_with (with_bytes m bytes) s o
+  pub last_alike : (o : Option Geometry) → last_with m s o ≡ last_with (with_bytes m bytes) s o
   last_alike None = refl
   last_alike (Some g) =
       let tails : first_below (fails_tail m (main_roots s) (walked_inodes m (main_roots s))) (inode_places (main_roots s) + 1) ≡ first_below (fails_tail (with_bytes m bytes) (main_roots s) (walked_inodes m (main_roots s))) (inode_places (main_roots s) + 1) =
@@ -150,9 +139,9 @@ sound_local img other t len area super held pointers sound =
           | inl here ↦ own b (pointer_held (image_blocks img sound.superblock) sound.superblock g sound.area p.geometry refl refl right t bitmap b (subst (λ w. IsPointerBlock g w bitmap b) (sym here) q))
           | inr apart ↦ pointers sound.superblock g h bitmap sound.names written (λ e. apart (active_one sound.area h (sym sound.active ∙ e))) b q
         ] in
-        let halves : (h : Which) → is_half (image_blocks img sound.superblock) g h ≡ is_half (image_blocks other sound.superblock) g h = λ h. half_alike (image_blocks img sound.superblock) (block_bytes other sound.superblock.blocksize) g p.geometry.volume p.geometry.size h (words h) in
+        let halves : (h : Which) → has_system_trees (image_blocks img sound.superblock) g h ≡ has_system_trees (image_blocks other sound.superblock) g h = λ h. half_alike (image_blocks img sound.superblock) (block_bytes other sound.superblock.blocksize) g p.geometry.volume p.geometry.size h (words h) in
         let bounds = block_size-bounds g.blocksize (IsGeometry-keeps g p.geometry.volume).block_size in
-        let none : reason_in (image_blocks other sound.superblock) sound.superblock g sound.area (main_roots sound.superblock) (walked_inodes (image_blocks other sound.superblock) (main_roots sound.superblock)) ≡ None =
+        let none : first_some (reasons_in (image_blocks other sound.superblock) sound.superblock g sound.area (main_roots sound.superblock) (outer_blocks (image_blocks other sound.superblock) (main_roots sound.superblock)) (walked_inodes (image_blocks other sound.superblock) (main_roots sound.superblock))) ≡ None =
         reasons_alike (image_blocks img sound.superblock) (block_bytes other sound.superblock.blocksize) sound.superblock t p.size p.tree own g sound.area (omega (arith, bounds.size_from, p.geometry.size))
         (bitmap_leaves_are (image_blocks img sound.superblock) sound.superblock g sound.area p.geometry refl refl right) halves p.none in
         let last : last_with (image_blocks other sound.superblock) sound.superblock (written_geometry sound.superblock (length img)) ≡ None =
@@ -181,7 +170,7 @@ module _ (m : BlockMap) (bytes : ℕ → List ℕ) (r : Roots) (t : Tree) (size 
   owner_back : (o : Owner) (node : Root) → HasNode (with_bytes m bytes) r t o node → HasNode m r t o node
   owner_back OfInodes node h = h
   owner_back OfLongfile node h = h
-  owner_back (OfBeside k) node h = h
+  owner_back (OfFurther k) node h = h
   owner_back (OfInode n) node (e, at, some, root) =
       let i : IsEntry (with_bytes m bytes) r n e = is.each n e at in
       let same : inode_of m r.inodes n ≡ inode_of (with_bytes m bytes) r.inodes n = ap (λ bs. inode_in m.order bs)

@@ -4,23 +4,23 @@ use Rattle.std.specs.Prelude.{true, false, Some, None, option_to_list, Contains,
 use Rattle.qx_geom.proofs.Members.{Contains-cases, Contains-cons, Contains-head, in_head, in_tail}
 use Rattle.qx_geom.proofs.Truths.{true_or_false}
 use Rattle.qx_geom.specs.Lists.{is_in}
-use Rattle.qx_model.specs.Tree.{Free, Row, Slot, named_by}
+use Rattle.qx_model.specs.Tree.{Row, Slot, Unused, named_by}
 use Rattle.qx_nodes.specs.BlockMap.{BlockMap}
 use Rattle.qx_view.proofs.PassingTests.{SlotsPass, fresh_directory}
 use Rattle.qx_view.proofs.WalkEnds.{Named, named_listed, new_among, next}
 use Rattle.qx_view.specs.Images.{Roots}
-use Rattle.qx_view.specs.Walk.{Taken, is_directory_inode, listed_after, new_ones, taken_from, targets_of}
+use Rattle.qx_view.specs.Walk.{Taken, is_directory_inode, listed_after, named_inodes, new_ones, taken_from}
 
 -- 1 is its own parent, and every other was named by its parent
 abbrev pub HasParent : BlockMap → Roots → ℕ → ℕ → Type 0
-HasParent m r n p = ((n ≡ 1) × (p ≡ 1)) ⊎ (Named m r p × (is_in (targets_of m r p) n ≡ true))
+HasParent m r n p = ((n ≡ 1) × (p ≡ 1)) ⊎ (Named m r p × (is_in (named_inodes m r p) n ≡ true))
 
 -- each of a list has its parent
 abbrev AllQueued : BlockMap → Roots → List (ℕ × ℕ) → Type 0
 AllQueued m r q = (e : ℕ × ℕ) → Contains q e → HasParent m r e.0 e.1 × Named m r e.0
 
 -- so has each of a longer list
-queue_more : (m : BlockMap) (r : Roots) (d : ℕ) (q : List (ℕ × ℕ)) (ns : List ℕ) → Named m r d → ((n : ℕ) → is_in ns n ≡ true → is_in (targets_of m r d) n ≡ true) → AllQueued m r q → AllQueued m r (q ++ map (λ n. (n, d)) ns)
+queue_more : (m : BlockMap) (r : Roots) (d : ℕ) (q : List (ℕ × ℕ)) (ns : List ℕ) → Named m r d → ((n : ℕ) → is_in ns n ≡ true → is_in (named_inodes m r d) n ≡ true) → AllQueued m r q → AllQueued m r (q ++ map (λ n. (n, d)) ns)
 queue_more m r d [] [] here all old e c = old e c
 queue_more m r d [] (n ∷ ns) here all old e c =
     elim (Contains-cases (n, d) e (map (λ k. (k, d)) ns) c) [
@@ -42,10 +42,10 @@ pub taken_parent : (m : BlockMap) (r : Roots) (fuel : ℕ) (q : List (ℕ × ℕ
 taken_parent m r zero q listed all t c = no_member t c
 taken_parent m r (suc fuel) [] listed all t c = no_member t c
 taken_parent m r (suc fuel) (e ∷ q) listed all t c =
-    elim (Contains-cases _ t (taken_from m r fuel (q ++ map (λ n. (n, e.0)) (new_ones (targets_of m r e.0) listed)) (listed_after (targets_of m r e.0) listed)) c) [
+    elim (Contains-cases _ t (taken_from m r fuel (q ++ map (λ n. (n, e.0)) (new_ones (named_inodes m r e.0) listed)) (listed_after (named_inodes m r e.0) listed)) c) [
       | inl is ↦ subst (λ z. HasParent m r z.inode z.parent × Named m r z.inode) is (all e (Contains-head e q))
-      | inr there ↦ taken_parent m r fuel (q ++ map (λ n. (n, e.0)) (new_ones (targets_of m r e.0) listed)) (listed_after (targets_of m r e.0) listed)
-          (queue_more m r e.0 q (new_ones (targets_of m r e.0) listed) (all e (Contains-head e q)).1 (λ n h. new_among (targets_of m r e.0) listed n h) (λ z k. all z (Contains-cons e z q k))) t there
+      | inr there ↦ taken_parent m r fuel (q ++ map (λ n. (n, e.0)) (new_ones (named_inodes m r e.0) listed)) (listed_after (named_inodes m r e.0) listed)
+          (queue_more m r e.0 q (new_ones (named_inodes m r e.0) listed) (all e (Contains-head e q)).1 (λ n h. new_among (named_inodes m r e.0) listed n h) (λ z k. all z (Contains-cons e z q k))) t there
     ]
 
 -- what was listed stays listed
@@ -53,32 +53,32 @@ pub taken_listed : (m : BlockMap) (r : Roots) (fuel : ℕ) (q : List (ℕ × ℕ
 taken_listed m r zero q listed n h t c = no_member t c
 taken_listed m r (suc fuel) [] listed n h t c = no_member t c
 taken_listed m r (suc fuel) (e ∷ q) listed n h t c =
-    elim (Contains-cases _ t (taken_from m r fuel (q ++ map (λ n. (n, e.0)) (new_ones (targets_of m r e.0) listed)) (listed_after (targets_of m r e.0) listed)) c) [
+    elim (Contains-cases _ t (taken_from m r fuel (q ++ map (λ n. (n, e.0)) (new_ones (named_inodes m r e.0) listed)) (listed_after (named_inodes m r e.0) listed)) c) [
       | inl is ↦ subst (λ z. is_in z.listed n ≡ true) is h
-      | inr there ↦ taken_listed m r fuel (q ++ map (λ n. (n, e.0)) (new_ones (targets_of m r e.0) listed)) (listed_after (targets_of m r e.0) listed) n (named_listed (targets_of m r e.0) listed n (inr h)) t there
+      | inr there ↦ taken_listed m r fuel (q ++ map (λ n. (n, e.0)) (new_ones (named_inodes m r e.0) listed)) (listed_after (named_inodes m r e.0) listed) n (named_listed (named_inodes m r e.0) listed n (inr h)) t there
     ]
 
 -- of two that are taken_of with different numbers one lists what the other names
 abbrev pub Listed : BlockMap → Roots → Taken → Taken → Type 0
-Listed m r t u = (n : ℕ) → is_in (targets_of m r t.inode) n ≡ true → is_in u.listed n ≡ true
+Listed m r t u = (n : ℕ) → is_in (named_inodes m r t.inode) n ≡ true → is_in u.listed n ≡ true
 
 -- of two that are taken one is later
 pub taken_order : (m : BlockMap) (r : Roots) (fuel : ℕ) (q : List (ℕ × ℕ)) (listed : List ℕ) (t u : Taken) → Contains (taken_from m r fuel q listed) t → Contains (taken_from m r fuel q listed) u → (t.inode ≡ u.inode) ⊎ (Listed m r t u ⊎ Listed m r u t)
 taken_order m r zero q listed t u c d = no_member t c
 taken_order m r (suc fuel) [] listed t u c d = no_member t c
 taken_order m r (suc fuel) (e ∷ q) listed t u c d =
-    let rest : List Taken = taken_from m r fuel (q ++ map (λ n. (n, e.0)) (new_ones (targets_of m r e.0) listed)) (listed_after (targets_of m r e.0) listed) in
-    let later : (w : Taken) → Contains rest w → (n : ℕ) → is_in (targets_of m r e.0) n ≡ true → is_in w.listed n ≡ true =
-    λ w k n h. taken_listed m r fuel (q ++ map (λ n. (n, e.0)) (new_ones (targets_of m r e.0) listed)) (listed_after (targets_of m r e.0) listed) n (named_listed (targets_of m r e.0) listed n (inl h)) w k in
+    let rest : List Taken = taken_from m r fuel (q ++ map (λ n. (n, e.0)) (new_ones (named_inodes m r e.0) listed)) (listed_after (named_inodes m r e.0) listed) in
+    let later : (w : Taken) → Contains rest w → (n : ℕ) → is_in (named_inodes m r e.0) n ≡ true → is_in w.listed n ≡ true =
+    λ w k n h. taken_listed m r fuel (q ++ map (λ n. (n, e.0)) (new_ones (named_inodes m r e.0) listed)) (listed_after (named_inodes m r e.0) listed) n (named_listed (named_inodes m r e.0) listed n (inl h)) w k in
     let here : Taken = record { inode = e.0; parent = e.1; listed = listed } in
     elim (Contains-cases here t rest c) [
       | inl a ↦ elim (Contains-cases here u rest d) [
         | inl b ↦ inl (ap (λ z. z.inode) (sym a ∙ b))
-        | inr b ↦ inr (inl (λ n h. later u b n (subst (λ z. is_in (targets_of m r z.inode) n ≡ true) (sym a) h)))
+        | inr b ↦ inr (inl (λ n h. later u b n (subst (λ z. is_in (named_inodes m r z.inode) n ≡ true) (sym a) h)))
       ]
       | inr a ↦ elim (Contains-cases here u rest d) [
-        | inl b ↦ inr (inr (λ n h. later t a n (subst (λ z. is_in (targets_of m r z.inode) n ≡ true) (sym b) h)))
-        | inr b ↦ taken_order m r fuel (q ++ map (λ n. (n, e.0)) (new_ones (targets_of m r e.0) listed)) (listed_after (targets_of m r e.0) listed) t u a b
+        | inl b ↦ inr (inr (λ n h. later t a n (subst (λ z. is_in (named_inodes m r z.inode) n ≡ true) (sym b) h)))
+        | inr b ↦ taken_order m r fuel (q ++ map (λ n. (n, e.0)) (new_ones (named_inodes m r e.0) listed)) (listed_after (named_inodes m r e.0) listed) t u a b
       ]
     ]
 
@@ -86,11 +86,11 @@ taken_order m r (suc fuel) (e ∷ q) listed t u c d =
 pub once_within : (m : BlockMap) (r : Roots) (d p : ℕ) (names : List (List ℕ)) (listed : List ℕ) (slots : List Slot) → SlotsPass m r d p names listed slots
     → (k j n : ℕ) (s u : Slot) → slice_get slots k ≡ Some s → slice_get slots j ≡ Some u → named_by s ≡ Some n → named_by u ≡ Some n → is_directory_inode m r n ≡ true → k ≡ j
 once_within m r d p names listed [] q k j n s u e f g h i = absurd (cc)
-once_within m r d p names listed (Free ∷ slots) q zero j n s u e f g h i =
-    let is : Free ≡ s = cc in let z : None ≡ Some n = subst (λ z. named_by z ≡ Some n) (sym is) g in absurd (cc)
-once_within m r d p names listed (Free ∷ slots) q (suc k) zero n s u e f g h i =
-    let is : Free ≡ u = cc in let z : None ≡ Some n = subst (λ z. named_by z ≡ Some n) (sym is) h in absurd (cc)
-once_within m r d p names listed (Free ∷ slots) q (suc k) (suc j) n s u e f g h i = ap (λ z. suc z) (once_within m r d p names listed slots q k j n s u e f g h i)
+once_within m r d p names listed (Unused ∷ slots) q zero j n s u e f g h i =
+    let is : Unused ≡ s = cc in let z : None ≡ Some n = subst (λ z. named_by z ≡ Some n) (sym is) g in absurd (cc)
+once_within m r d p names listed (Unused ∷ slots) q (suc k) zero n s u e f g h i =
+    let is : Unused ≡ u = cc in let z : None ≡ Some n = subst (λ z. named_by z ≡ Some n) (sym is) h in absurd (cc)
+once_within m r d p names listed (Unused ∷ slots) q (suc k) (suc j) n s u e f g h i = ap (λ z. suc z) (once_within m r d p names listed slots q k j n s u e f g h i)
 once_within m r d p names listed (Row x other l ∷ slots) q zero zero n s u e f g h i = refl
 once_within m r d p names listed (Row x other l ∷ slots) q zero (suc j) n s u e f g h i =
     let is : Row x other l ≡ s = cc in

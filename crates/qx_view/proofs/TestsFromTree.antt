@@ -10,12 +10,13 @@ use Rattle.qx_fields.specs.Number.{number}
 use Rattle.qx_geom.proofs.Members.{Contains-cases, Contains-cons, Contains-head, in_append_cases, in_cases, in_head, in_tail}
 use Rattle.qx_geom.proofs.Truths.{and_left, and_right, not_so, not_true, or_right, true_or_false}
 use Rattle.qx_geom.specs.Lists.{all_differ, each_below, is_in}
-use Rattle.qx_model.specs.Tree.{Body, Directory, Entry, File, Free, IsDirectoryIn, Link, Names, NamesAt, Reached, Row, Slot, Special, Tree, down, entry_of, is_dots, named_by, slots_of, slots_of_body, slots_of_entry, top}
+use Rattle.qx_model.specs.Tree.{Body, Directory, Entry, File, IsDirectory, Link, Names, NamesAt, Reached, Row, Slot, Special, Tree, Unused, down, entry_of, is_dots, named_by, slots_of, slots_of_body, slots_of_entry, top}
 use Rattle.qx_nodes.specs.BlockMap.{BlockMap}
 use Rattle.qx_nodes.specs.Content.{levels_fit}
 use Rattle.qx_nodes.specs.Visits.{visits_of}
 use Rattle.qx_records.specs.InodeRecord.{kind_of}
-use Rattle.qx_records.specs.NameRecord.{Bad, Long, RawRecord, Short, Unused}
+use Rattle.qx_records.specs.NameRecord.{Bad, Long, RawRecord, Short}
+use Rattle.qx_records.specs.NameRecord as records
 use Rattle.qx_records.specs.NameSum.{sum_fits}
 use Rattle.qx_view.proofs.OneTree.{parent_same}
 use Rattle.qx_view.proofs.TakenInodes.{HasParent, taken_parent}
@@ -25,7 +26,7 @@ use Rattle.qx_view.proofs.TreeLocality.{not_special}
 use Rattle.qx_view.proofs.WalkEnds.{Named, after_cases, first, firsts, firsts-append, inodes, named_listed, new_among, next}
 use Rattle.qx_view.specs.Images.{Roots, has_inode, inode_places, long_name, raw_of, record_block}
 use Rattle.qx_view.specs.Reading.{AreRows, HasNode, IsBody, IsEntry, IsNode, IsOfKind, IsTreeOf, OfInode, Owner, is_plain, long_slot, slot_of, slots_read}
-use Rattle.qx_view.specs.Walk.{Met, Place, Taken, Test, Tested, first_failing, inode_mode, inode_root, inode_tests, is_directory_inode, is_directory_kind, kind_tests, listed_after, met_of, new_ones, node_tests, record_tests, records_tests, row_tests, slot_name, taken_from, taken_of, target_of, targets_of, visit_tests}
+use Rattle.qx_view.specs.Walk.{Met, Place, Taken, Test, Tested, first_failing, inode_mode, inode_root, inode_tests, is_directory_inode, is_directory_kind, kind_tests, listed_after, met_of, named_inode, named_inodes, new_ones, node_tests, record_tests, records_tests, row_tests, slot_name, taken_from, taken_of, visit_tests}
 
 -- each test of its own passes
 abbrev pub AllTested : List Test → Type 0
@@ -107,7 +108,7 @@ taken_new : (m : BlockMap) (r : Roots) (fuel : ℕ) (queue : List (ℕ × ℕ)) 
 taken_new m r zero queue listed n h = absurd (cc)
 taken_new m r (suc fuel) [] listed n h = absurd (cc)
 taken_new m r (suc fuel) (e ∷ queue) listed n h =
-    let ns : List ℕ = targets_of m r e.0 in
+    let ns : List ℕ = named_inodes m r e.0 in
     elim (in_cases e.0 n (inodes (taken_from m r fuel (queue ++ map (λ n. (n, e.0)) (new_ones ns listed)) (listed_after ns listed))) h) [
       | inl is ↦ inl (subst (λ z. is_in (e.0 ∷ firsts queue) z ≡ true) is (in_head e.0 (firsts queue)))
       | inr there ↦ elim (taken_new m r fuel (queue ++ map (λ n. (n, e.0)) (new_ones ns listed)) (listed_after ns listed) n there) [
@@ -124,7 +125,7 @@ pub taken_differ : (m : BlockMap) (r : Roots) (fuel : ℕ) (queue : List (ℕ ×
 taken_differ m r zero queue listed q = refl
 taken_differ m r (suc fuel) [] listed q = refl
 taken_differ m r (suc fuel) (e ∷ queue) listed q =
-    let ns : List ℕ = targets_of m r e.0 in
+    let ns : List ℕ = named_inodes m r e.0 in
     let more : List (ℕ × ℕ) = queue ++ map (λ n. (n, e.0)) (new_ones ns listed) in
     let here : is_in listed e.0 ≡ true = q.listed_all e.0 (in_head e.0 (firsts queue)) in
     let out : is_in (inodes (taken_from m r fuel more (listed_after ns listed))) e.0 ≡ false = not_so (is_in (inodes (taken_from m r fuel more (listed_after ns listed))) e.0) (λ t. elim (taken_new m r fuel more (listed_after ns listed) e.0 t) [
@@ -138,7 +139,7 @@ taken_differ m r (suc fuel) (e ∷ queue) listed q =
 
 -- inode 1, or an inode that one of these names
 abbrev pub Origin : BlockMap → Roots → (ℕ → Type 0) → ℕ → Type 0
-Origin m r from n = (n ≡ 1) ⊎ ((d : ℕ) × from d × (is_in (targets_of m r d) n ≡ true))
+Origin m r from n = (n ≡ 1) ⊎ ((d : ℕ) × from d × (is_in (named_inodes m r d) n ≡ true))
 
 -- what was listed was named by a directory that was taken before
 pub taken_origin : (m : BlockMap) (r : Roots) (fuel : ℕ) (queue : List (ℕ × ℕ)) (listed gone : List ℕ) → ((n : ℕ) → is_in (firsts queue) n ≡ true → Named m r n)
@@ -148,7 +149,7 @@ pub taken_origin : (m : BlockMap) (r : Roots) (fuel : ℕ) (queue : List (ℕ ×
 taken_origin m r zero queue listed gone known from out once t c n h = absurd (omega (arith, c.1))
 taken_origin m r (suc fuel) [] listed gone known from out once t c n h = absurd (omega (arith, c.1))
 taken_origin m r (suc fuel) (e ∷ queue) listed gone known from out once t c n h =
-    let ns : List ℕ = targets_of m r e.0 in
+    let ns : List ℕ = named_inodes m r e.0 in
     let more : List (ℕ × ℕ) = queue ++ map (λ n. (n, e.0)) (new_ones ns listed) in
     let rest : List Taken = taken_from m r fuel more (listed_after ns listed) in
     let here : Taken = record { inode = e.0; parent = e.1; listed = listed } in
@@ -214,19 +215,19 @@ facts_tail m r d p names listed x slots f = record {
   differ = λ k j n i name a b at bt. omega (arith, f.differ (suc k) (suc j) n i name a b at bt);
   once = λ k j n s u at bt g h is. omega (arith, f.once (suc k) (suc j) n s u at bt g h is);
   fresh = λ k n name long at. by_name x refl k n name long at;
-  new = λ k n s at g is. by_target (named_by x) refl k n s at g is;
+  new = λ k n s at g is. by_named (named_by x) refl k n s at g is;
 }
   where
     by_name : (y : Slot) → x ≡ y → (k n : ℕ) (name : List ℕ) (long : Option ℕ) → slice_get slots k ≡ Some (Row n name long) → list_any (λ other. bytes_eq other name) (slot_name (Some y) ++ names) ≡ false
-    by_name Free is k n name long at = f.fresh (suc k) n name long at
+    by_name Unused is k n name long at = f.fresh (suc k) n name long at
     by_name (Row i other l) is k n name long at =
         or_false (bytes_eq other name) (list_any (λ z. bytes_eq z name) names)
         (not_so (bytes_eq other name) (λ t. zero_suc k (f.differ 0 (suc k) i n name l long (ap (λ z. Some z) (is ∙ ap (λ z. Row i z l) (same_bytes other name t))) at)))
         (f.fresh (suc k) n name long at)
 
-    by_target : (o : Option ℕ) → named_by x ≡ o → (k n : ℕ) (s : Slot) → slice_get slots k ≡ Some s → named_by s ≡ Some n → is_directory_inode m r n ≡ true → is_in (option_to_list o ++ listed) n ≡ false
-    by_target None is k n s at g dir = f.new (suc k) n s at g dir
-    by_target (Some i) is k n s at g dir =
+    by_named : (o : Option ℕ) → named_by x ≡ o → (k n : ℕ) (s : Slot) → slice_get slots k ≡ Some s → named_by s ≡ Some n → is_directory_inode m r n ≡ true → is_in (option_to_list o ++ listed) n ≡ false
+    by_named None is k n s at g dir = f.new (suc k) n s at g dir
+    by_named (Some i) is k n s at g dir =
         or_false (nat_eq i n) (is_in listed n)
         (not_so (nat_eq i n) (λ t. zero_suc k (f.once 0 (suc k) n x s refl at (is ∙ ap (λ z. Some z) (eqb-true i n t)) g dir)))
         (f.new (suc k) n s at g dir)
@@ -251,7 +252,7 @@ not_dots n name long e = ap (λ b. if b then None else Some n) e
 
 -- the tests of a record pass
 record_tested : (m : BlockMap) (r : Roots) (at : Place) (names : List (List ℕ)) (listed : List ℕ) (raw : RawRecord) (x : Slot) (slots : List Slot) → slot_of m r.longfile raw ≡ Some x → DirectoryFacts m r at.inode at.parent names listed (x ∷ slots) → AllTested (record_tests m r at names listed raw)
-record_tested m r at names listed Unused x slots is f = tt
+record_tested m r at names listed records.Unused x slots is f = tt
 record_tested m r at names listed (Bad c) x slots is f = absurd (cc)
 record_tested m r at names listed (Short n name) x slots is f =
     let same : Row n name None ≡ x = cc in
@@ -300,7 +301,7 @@ pub record DirectoryRead (m : BlockMap) (r : Roots) (t : Tree) (n : ℕ) : Type 
   pub parent : ℕ
   pub slots_are : slots_of t n ≡ slots
   pub read : slots_read m r.longfile (inode_root m r n) ≡ map (λ s. Some s) slots
-  pub is : IsDirectoryIn t n parent
+  pub is : IsDirectory t n parent
 
 module _ (m : BlockMap) (r : Roots) (t : Tree) (is : IsTreeOf m r t) where
   -- an inode has the kind of its entry
@@ -349,14 +350,14 @@ module _ (m : BlockMap) (r : Roots) (t : Tree) (is : IsTreeOf m r t) where
       go (Some e) here at = (e, here, ap (λ o. is_directory_kind o) (kind_here d e here) ∙ ap (λ c. is_directory_kind (Some c)) (by_kind (is.each d e here).kind e (is.each d e here).holds at))
 
   -- the inodes that a directory's records name
-  targets_are : (d n : ℕ) → is_directory_inode m r d ≡ true → targets_of m r d ≡ filter_map (λ k. target_of m r.longfile (raw_of m (inode_root m r d) k)) (each_below ((inode_root m r d).size / 32) (λ k. k))
-  targets_are d n dir = ap (λ b. if b then filter_map (λ k. target_of m r.longfile (raw_of m (inode_root m r d) k)) (each_below ((inode_root m r d).size / 32) (λ k. k)) else []) dir
+  named_are : (d n : ℕ) → is_directory_inode m r d ≡ true → named_inodes m r d ≡ filter_map (λ k. named_inode m r.longfile (raw_of m (inode_root m r d) k)) (each_below ((inode_root m r d).size / 32) (λ k. k))
+  named_are d n dir = ap (λ b. if b then filter_map (λ k. named_inode m r.longfile (raw_of m (inode_root m r d) k)) (each_below ((inode_root m r d).size / 32) (λ k. k)) else []) dir
 
   -- only a directory names inodes
-  targets_directory : (d n : ℕ) → is_in (targets_of m r d) n ≡ true → is_directory_inode m r d ≡ true
-  targets_directory d n h = go (is_directory_inode m r d) h
+  names_in_directory : (d n : ℕ) → is_in (named_inodes m r d) n ≡ true → is_directory_inode m r d ≡ true
+  names_in_directory d n h = go (is_directory_inode m r d) h
     where
-      go : (b : Bool) → is_in (if b then filter_map (λ k. target_of m r.longfile (raw_of m (inode_root m r d) k)) (each_below ((inode_root m r d).size / 32) (λ k. k)) else []) n ≡ true → b ≡ true
+      go : (b : Bool) → is_in (if b then filter_map (λ k. named_inode m r.longfile (raw_of m (inode_root m r d) k)) (each_below ((inode_root m r d).size / 32) (λ k. k)) else []) n ≡ true → b ≡ true
       go true h = refl
       go false h = absurd (cc)
 
@@ -365,18 +366,18 @@ module _ (m : BlockMap) (r : Roots) (t : Tree) (is : IsTreeOf m r t) where
   read_self d f = ap (λ ks. map (λ k. slot_of m r.longfile (raw_of m (inode_root m r d) k)) ks) (each_self ((inode_root m r d).size / 32)) ∙ f.read
 
   -- what its records name, its slots name
-  pub names_from : (d n : ℕ) (e : Entry) → entry_of t d ≡ Some e → is_in (targets_of m r d) n ≡ true → Names t d n
+  pub names_from : (d n : ℕ) (e : Entry) → entry_of t d ≡ Some e → is_in (named_inodes m r d) n ≡ true → Names t d n
   names_from d n e at h =
-      let f : DirectoryRead m r t d = directory_read d e at (targets_directory d n h) in
-      let w : NamedAt f.slots n = names_to_slots (λ k. slot_of m r.longfile (raw_of m (inode_root m r d) k)) (each_below ((inode_root m r d).size / 32) (λ k. k)) f.slots n (read_self d f) (subst (λ z. is_in z n ≡ true) (targets_are d n (targets_directory d n h)) h) in
+      let f : DirectoryRead m r t d = directory_read d e at (names_in_directory d n h) in
+      let w : NamedAt f.slots n = names_to_slots (λ k. slot_of m r.longfile (raw_of m (inode_root m r d) k)) (each_below ((inode_root m r d).size / 32) (λ k. k)) f.slots n (read_self d f) (subst (λ z. is_in z n ≡ true) (named_are d n (names_in_directory d n h)) h) in
       (w.place, (w.slot, subst (λ z. slice_get z w.place ≡ Some w.slot) (sym f.slots_are) w.at, w.names))
 
   -- and back
-  pub to_targets : (d k n : ℕ) → NamesAt t d k n → is_in (targets_of m r d) n ≡ true
-  to_targets d k n (x, at, names) =
+  pub to_named : (d k n : ℕ) → NamesAt t d k n → is_in (named_inodes m r d) n ≡ true
+  to_named d k n (x, at, names) =
       let w : (e : Entry) × (entry_of t d ≡ Some e) × (is_directory_inode m r d ≡ true) = has_slots d k x at in
       let f : DirectoryRead m r t d = directory_read d w.0 w.1 w.2 in
-      subst (λ z. is_in z n ≡ true) (sym (targets_are d n w.2)) (slots_to_names (λ k. slot_of m r.longfile (raw_of m (inode_root m r d) k)) (each_below ((inode_root m r d).size / 32) (λ k. k)) f.slots n k x (read_self d f) (subst (λ z. slice_get z k ≡ Some x) f.slots_are at) names)
+      subst (λ z. is_in z n ≡ true) (sym (named_are d n w.2)) (slots_to_names (λ k. slot_of m r.longfile (raw_of m (inode_root m r d) k)) (each_below ((inode_root m r d).size / 32) (λ k. k)) f.slots n k x (read_self d f) (subst (λ z. slice_get z k ≡ Some x) f.slots_are at) names)
 
   -- what the walk names is reached
   pub named_reached : (n : ℕ) → Named m r n → Reached t n
@@ -417,8 +418,8 @@ module _ (m : BlockMap) (r : Roots) (t : Tree) (is : IsTreeOf m r t) where
   entry_named n h = is.rooted.closed n (named_reached n h)
 
   -- what a named directory names is there
-  target_there : (d n : ℕ) → Named m r d → is_in (targets_of m r d) n ≡ true → (e : Entry) × (entry_of t n ≡ Some e)
-  target_there d n h k = entry_named n (next h k)
+  named_there : (d n : ℕ) → Named m r d → is_in (named_inodes m r d) n ≡ true → (e : Entry) × (entry_of t n ≡ Some e)
+  named_there d n h k = entry_named n (next h k)
 
   -- two rows that name one directory are one
   one_row : (d k c j n : ℕ) → NamesAt t d k n → NamesAt t c j n → is_directory_inode m r n ≡ true → Named m r n → (d ≡ c) × (k ≡ j)
@@ -431,7 +432,7 @@ module _ (m : BlockMap) (r : Roots) (t : Tree) (is : IsTreeOf m r t) where
   taken_parent_is u c dir =
       let f : DirectoryRead m r t u.inode = directory_read u.inode (taken_in u c).entry (taken_in u c).at dir in
       elim (taken_in u c).parent [
-        | inl one ↦ parent_same t 1 f.parent 1 (subst (λ z. IsDirectoryIn t z f.parent) one.0 f.is) is.rooted.top ∙ sym one.1
+        | inl one ↦ parent_same t 1 f.parent 1 (subst (λ z. IsDirectory t z f.parent) one.0 f.is) is.rooted.top ∙ sym one.1
         | inr up ↦
             let e : (e : Entry) × (entry_of t u.parent ≡ Some e) = entry_named u.parent up.0 in
             let names : Names t u.parent u.inode = names_from u.parent u.inode e.0 e.1 up.1 in
@@ -451,9 +452,9 @@ module _ (m : BlockMap) (r : Roots) (t : Tree) (is : IsTreeOf m r t) where
   directory_facts : (u : Taken) (c : Contains (taken_of m r) u) (dir : is_directory_inode m r u.inode ≡ true) → DirectoryFacts m r u.inode u.parent [] u.listed (directory_read u.inode (taken_in u c).entry (taken_in u c).at dir).slots
   directory_facts u c dir =
       let f : DirectoryRead m r t u.inode = directory_read u.inode (taken_in u c).entry (taken_in u c).at dir in
-      let rows : AreRows u.inode u.parent f.slots = subst (λ z. AreRows u.inode u.parent z) f.slots_are (is.rooted.rows u.inode u.parent (subst (λ p. IsDirectoryIn t u.inode p) (taken_parent_is u c dir) f.is)) in
+      let rows : AreRows u.inode u.parent f.slots = subst (λ z. AreRows u.inode u.parent z) f.slots_are (is.rooted.rows u.inode u.parent (subst (λ p. IsDirectory t u.inode p) (taken_parent_is u c dir) f.is)) in
       let names_at : (k n : ℕ) (x : Slot) → slice_get f.slots k ≡ Some x → named_by x ≡ Some n → NamesAt t u.inode k n = λ k n x at names. (x, subst (λ z. slice_get z k ≡ Some x) (sym f.slots_are) at, names) in
-      let named_of : (k n : ℕ) → NamesAt t u.inode k n → Named m r n = λ k n a. next (taken_in u c).named (to_targets u.inode k n a) in
+      let named_of : (k n : ℕ) → NamesAt t u.inode k n → Named m r n = λ k n a. next (taken_in u c).named (to_named u.inode k n a) in
       record {
         fact = λ k n name long at. record {
           plain = rows.plain k n name long at;

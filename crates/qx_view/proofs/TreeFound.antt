@@ -4,13 +4,14 @@ use Rattle.std.specs.Prelude.{Bool, true, false, ◌||◌, nat_eq, if◌then◌e
 use Rattle.std.specs.List.{range_with_len, cons_option}
 use Rattle.std.proofs.lemmas.Bool.{eqb-true, cases_lt}
 use Rattle.std.proofs.lemmas.List.FromFn.{length-map-range_with_len}
+use Rattle.std.specs.Option.{option_flatten}
 use Rattle.qx_geom.specs.declared.root.Root.{Root}
 use Rattle.qx_records.specs.declared.kind.Kind.{Kind}
 use Rattle.qx_model.specs.declared.attr.Attr.{Attr}
 use Rattle.qx_records.specs.declared.kind.Kind.TheVariants as kinds
 use Rattle.qx_geom.proofs.Members.{Contains-cons, Contains-head, in_cases, in_head, in_tail}
 use Rattle.qx_geom.specs.Lists.{each_below, is_in}
-use Rattle.qx_model.specs.Tree.{Body, Directory, Entry, File, Free, Link, Slot, Special, Tree, entry_of, flat, named_by}
+use Rattle.qx_model.specs.Tree.{Body, Directory, Entry, File, Link, Slot, Special, Tree, Unused, entry_of, named_by}
 use Rattle.qx_nodes.specs.BlockMap.{BlockMap}
 use Rattle.qx_nodes.specs.Content.{content_of}
 use Rattle.qx_nodes.specs.Leaves.{leaves_below}
@@ -40,7 +41,7 @@ parent_in (t ∷ ts) n = if nat_eq t.inode n then t.parent else parent_in ts n
 
 -- the slots that the records of a directory are
 abbrev pub slots_found : BlockMap → Root → Root → List Slot
-slots_found m longfile node = map (λ o. unwrap_or o Free) (slots_read m longfile node)
+slots_found m longfile node = map (λ o. unwrap_or o Unused) (slots_read m longfile node)
 
 -- the size of a node that isn't a special's
 abbrev pub size_found : Root → Option Kind → ℕ
@@ -93,7 +94,7 @@ tree_places m r = length-map-range_with_len (λ k. place_found m r (suc k)) 0 (i
 
 -- what stands at a place
 place_at : (m : BlockMap) (r : Roots) (k : ℕ) → k < inode_places r → entry_of (tree_found m r) (suc k) ≡ place_found m r (suc k)
-place_at m r k h = ap flat (range_at (λ k. place_found m r (suc k)) 0 (inode_places r) k h) ∙ ap (λ z. place_found m r (suc z)) (let e : 0 + k ≡ k = omega arith in e)
+place_at m r k h = ap option_flatten (range_at (λ k. place_found m r (suc k)) 0 (inode_places r) k h) ∙ ap (λ z. place_found m r (suc z)) (let e : 0 + k ≡ k = omega arith in e)
 
 -- an inode that is taken has its entry
 pub entry_in : (m : BlockMap) (r : Roots) (n : ℕ) → is_in (inodes (taken_of m r)) n ≡ true → 0 < n → n ≤ inode_places r → entry_of (tree_found m r) n ≡ Some (entry_found m r (parent_in (taken_of m r) n) n)
@@ -106,11 +107,11 @@ in_entry m r zero e h = absurd (cc)
 in_entry m r (suc k) e h =
     elim (cases_lt k (inode_places r)) [
       | inl below ↦ go (is_in (inodes (taken_of m r)) (suc k)) (sym (place_at m r k below) ∙ h)
-      | inr past ↦ absurd (none_some (sym (ap flat_of (range_past (λ k. place_found m r (suc k)) 0 (inode_places r) k (omega arith))) ∙ h))
+      | inr past ↦ absurd (none_some (sym (ap flatten_of (range_past (λ k. place_found m r (suc k)) 0 (inode_places r) k (omega arith))) ∙ h))
     ]
   where
-    flat_of : Option (Option Entry) → Option Entry
-    flat_of o = flat o
+    flatten_of : Option (Option Entry) → Option Entry
+    flatten_of o = option_flatten o
 
     none_some : None ≡ Some e → ⊥
     none_some q = cc
@@ -188,9 +189,9 @@ slots_to_names g (i ∷ ks) (x ∷ slots) n (suc k) s e at names =
     in_cons (option_and_then named_by (g i)) _ n (inr (slots_to_names g ks slots n k s rest at names))
 
 -- the slots that are found are those that the records say
-pub found_slots : (os : List (Option Slot)) (slots : List Slot) → os ≡ map (λ s. Some s) slots → map (λ o. unwrap_or o Free) os ≡ slots
-found_slots os slots e = ap (λ z. map (λ o. unwrap_or o Free) z) e ∙ back slots
+pub found_slots : (os : List (Option Slot)) (slots : List Slot) → os ≡ map (λ s. Some s) slots → map (λ o. unwrap_or o Unused) os ≡ slots
+found_slots os slots e = ap (λ z. map (λ o. unwrap_or o Unused) z) e ∙ back slots
   where
-    back : (slots : List Slot) → map (λ o. unwrap_or o Free) (map (λ s. Some s) slots) ≡ slots
+    back : (slots : List Slot) → map (λ o. unwrap_or o Unused) (map (λ s. Some s) slots) ≡ slots
     back [] = refl
     back (s ∷ slots) = ap (λ z. s ∷ z) (back slots)

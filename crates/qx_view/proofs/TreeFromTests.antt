@@ -11,11 +11,12 @@ use Rattle.qx_fields.specs.Number.{field, number}
 use Rattle.qx_geom.proofs.Truths.{and_right, true_or_false}
 use Rattle.qx_geom.specs.Lists.{each_below, is_in}
 use Rattle.qx_geom.specs.Pointer.{absent}
-use Rattle.qx_model.specs.Tree.{Directory, Entry, Free, IsDirectoryIn, Names, NamesAt, Reached, Row, Slot, down, entry_of, is_dots, named_by, slots_of, slots_of_body, slots_of_entry, top}
+use Rattle.qx_model.specs.Tree.{Directory, Entry, IsDirectory, Names, NamesAt, Reached, Row, Slot, Unused, down, entry_of, is_dots, named_by, slots_of, slots_of_body, slots_of_entry, top}
 use Rattle.qx_nodes.specs.BlockMap.{BlockMap}
 use Rattle.qx_nodes.specs.Content.{HasSize, levels_fit, piece_of}
 use Rattle.qx_records.specs.InodeRecord.{kind_of}
-use Rattle.qx_records.specs.NameRecord.{Bad, Long, Short, Unused, raw_in}
+use Rattle.qx_records.specs.NameRecord.{Bad, Long, Short, raw_in}
+use Rattle.qx_records.specs.NameRecord as records
 use Rattle.qx_records.specs.NameSum.{sum_fits}
 use Rattle.qx_view.proofs.PassingTests.{NodePasses, Passing, RowPasses, SlotsPass, fresh_directory, names_differ, node_passes, passing_each, passing_parts, passing_tested, records_pass, row_at}
 use Rattle.qx_view.proofs.TakenInodes.{HasParent, once_within, taken_listed, taken_order, taken_parent}
@@ -23,7 +24,7 @@ use Rattle.qx_view.proofs.TreeFound.{NamedAt, TakenWith, body_found, each_self, 
 use Rattle.qx_view.proofs.WalkEnds.{Named, RowsInRange, first, inodes, next, walk_closed, walk_is_least}
 use Rattle.qx_view.specs.Images.{Roots, has_inode, inode_of, inode_places, long_name, raw_of}
 use Rattle.qx_view.specs.Reading.{AreRows, IsEntry, IsOfKind, IsRooted, attr_of, long_slot, slot_of, slots_read}
-use Rattle.qx_view.specs.Walk.{Taken, Tested, finding_of, inode_mode, inode_root, inode_tests, is_directory_inode, is_directory_kind, kind_tests, node_tests, records_tests, root_tests, taken_from, taken_of, target_of, targets_of, tests_of, top_tests}
+use Rattle.qx_view.specs.Walk.{Taken, Tested, finding_of, inode_mode, inode_root, inode_tests, is_directory_inode, is_directory_kind, kind_tests, named_inode, named_inodes, node_tests, records_tests, root_tests, taken_from, taken_of, tests_of, top_tests}
 
 -- a directory's kind is one
 directory_kind : (k : Option Kind) → is_directory_kind k ≡ true → k ≡ Some kinds.Directory
@@ -42,7 +43,7 @@ record IsRow (s : Slot) (n : ℕ) : Type 0 where
 
 -- a slot that names an inode is a row
 named_row : (s : Slot) (n : ℕ) → named_by s ≡ Some n → IsRow s n
-named_row Free n e = absurd (cc)
+named_row Unused n e = absurd (cc)
 named_row (Row i name long) n e = go (is_dots name) refl e
   where
     go : (b : Bool) → is_dots name ≡ b → (if b then None else Some i) ≡ Some n → IsRow (Row i name long) n
@@ -69,7 +70,7 @@ row_positive m longfile o bytes n name long e = go (field o 4 bytes 0) (slice_in
         by_sum true f = cc
         by_sum false f = absurd (cc)
 
-    go : (i c : ℕ) (a b d f : Bool) (number sum : ℕ) → (i == 0) ≡ a → slot_of m longfile (if a || b then Unused else if d then Short i (slice_range bytes 5 (5 + c)) else if f then Long i number sum else Bad c) ≡ Some (Row n name long) → 0 < n
+    go : (i c : ℕ) (a b d f : Bool) (number sum : ℕ) → (i == 0) ≡ a → slot_of m longfile (if a || b then records.Unused else if d then Short i (slice_range bytes 5 (5 + c)) else if f then Long i number sum else Bad c) ≡ Some (Row n name long) → 0 < n
     go i c true b d f number sum z e = absurd (cc)
     go i c false true d f number sum z e = absurd (cc)
     go i c false false true f number sum z e = let same : i ≡ n = cc in positive i n same z
@@ -90,20 +91,20 @@ module _ (m : BlockMap) (r : Roots) (s : HasSize m) (none : finding_of m r ≡ N
   whole = record { met = []; none = none }
 
   -- those before the inodes, and those of the inodes
-  pub last_parts : Passing (root_tests m r.inodes ++ root_tests m r.longfile ++ flat_map (root_tests m) r.beside ++ top_tests m r) × Passing (flat_map (inode_tests m r) (taken_of m r))
-  last_parts = passing_parts (root_tests m r.inodes ++ root_tests m r.longfile ++ flat_map (root_tests m) r.beside ++ top_tests m r) (flat_map (inode_tests m r) (taken_of m r)) whole
+  pub last_parts : Passing (root_tests m r.inodes ++ root_tests m r.longfile ++ flat_map (root_tests m) r.further ++ top_tests m r) × Passing (flat_map (inode_tests m r) (taken_of m r))
+  last_parts = passing_parts (root_tests m r.inodes ++ root_tests m r.longfile ++ flat_map (root_tests m) r.further ++ top_tests m r) (flat_map (inode_tests m r) (taken_of m r)) whole
 
   -- those of the root nodes, and those of inode 1
-  top_parts : Passing (root_tests m r.inodes ++ root_tests m r.longfile ++ flat_map (root_tests m) r.beside) × Passing (top_tests m r)
-  top_parts = passing_parts (root_tests m r.inodes ++ root_tests m r.longfile ++ flat_map (root_tests m) r.beside) (top_tests m r) last_parts.0
+  top_parts : Passing (root_tests m r.inodes ++ root_tests m r.longfile ++ flat_map (root_tests m) r.further) × Passing (top_tests m r)
+  top_parts = passing_parts (root_tests m r.inodes ++ root_tests m r.longfile ++ flat_map (root_tests m) r.further) (top_tests m r) last_parts.0
 
   -- those of the first two root nodes, and those of the others
-  pub beside_parts : Passing (root_tests m r.inodes ++ root_tests m r.longfile) × Passing (flat_map (root_tests m) r.beside)
-  beside_parts = passing_parts (root_tests m r.inodes ++ root_tests m r.longfile) (flat_map (root_tests m) r.beside) top_parts.0
+  pub further_parts : Passing (root_tests m r.inodes ++ root_tests m r.longfile) × Passing (flat_map (root_tests m) r.further)
+  further_parts = passing_parts (root_tests m r.inodes ++ root_tests m r.longfile) (flat_map (root_tests m) r.further) top_parts.0
 
   -- those of the first two
   pub root_parts : Passing (root_tests m r.inodes) × Passing (root_tests m r.longfile)
-  root_parts = passing_parts (root_tests m r.inodes) (root_tests m r.longfile) beside_parts.0
+  root_parts = passing_parts (root_tests m r.inodes) (root_tests m r.longfile) further_parts.0
 
   -- inode 1 is a directory
   top_there : (has_inode r.inodes 1 ≡ true) × (is_directory_inode m r 1 ≡ true)
@@ -159,11 +160,11 @@ module _ (m : BlockMap) (r : Roots) (s : HasSize m) (none : finding_of m r ≡ N
       }
 
   -- only a directory names inodes
-  targets_directory : (d n : ℕ) → is_in (targets_of m r d) n ≡ true → (is_directory_inode m r d ≡ true) × (is_in (filter_map (λ k. target_of m r.longfile (raw_of m (inode_root m r d) k)) (each_below ((inode_root m r d).size / 32) (λ k. k))) n ≡ true)
-  targets_directory d n h = go (is_directory_inode m r d) h
+  names_in_directory : (d n : ℕ) → is_in (named_inodes m r d) n ≡ true → (is_directory_inode m r d ≡ true) × (is_in (filter_map (λ k. named_inode m r.longfile (raw_of m (inode_root m r d) k)) (each_below ((inode_root m r d).size / 32) (λ k. k))) n ≡ true)
+  names_in_directory d n h = go (is_directory_inode m r d) h
     where
-      go : (b : Bool) → is_in (if b then filter_map (λ k. target_of m r.longfile (raw_of m (inode_root m r d) k)) (each_below ((inode_root m r d).size / 32) (λ k. k)) else []) n ≡ true
-          → (b ≡ true) × (is_in (filter_map (λ k. target_of m r.longfile (raw_of m (inode_root m r d) k)) (each_below ((inode_root m r d).size / 32) (λ k. k))) n ≡ true)
+      go : (b : Bool) → is_in (if b then filter_map (λ k. named_inode m r.longfile (raw_of m (inode_root m r d) k)) (each_below ((inode_root m r d).size / 32) (λ k. k)) else []) n ≡ true
+          → (b ≡ true) × (is_in (filter_map (λ k. named_inode m r.longfile (raw_of m (inode_root m r d) k)) (each_below ((inode_root m r d).size / 32) (λ k. k))) n ≡ true)
       go true h = (refl, h)
       go false h = absurd (cc)
 
@@ -178,9 +179,9 @@ module _ (m : BlockMap) (r : Roots) (s : HasSize m) (none : finding_of m r ≡ N
     pub positive : 0 < n
 
   -- what a directory that was taken names is there
-  named_there : (d n : ℕ) → is_in (inodes (taken_of m r)) d ≡ true → is_in (targets_of m r d) n ≡ true → IsThere n
+  named_there : (d n : ℕ) → is_in (inodes (taken_of m r)) d ≡ true → is_in (named_inodes m r d) n ≡ true → IsThere n
   named_there d n h k =
-      let t : (is_directory_inode m r d ≡ true) × (is_in (filter_map (λ k. target_of m r.longfile (raw_of m (inode_root m r d) k)) (each_below ((inode_root m r d).size / 32) (λ k. k))) n ≡ true) = targets_directory d n k in
+      let t : (is_directory_inode m r d ≡ true) × (is_in (filter_map (λ k. named_inode m r.longfile (raw_of m (inode_root m r d) k)) (each_below ((inode_root m r d).size / 32) (λ k. k))) n ≡ true) = names_in_directory d n k in
       let u : TakenWith (taken_of m r) d (parent_of d) = it_of d h in
       let f : DirectoryFound d u.it = directory_found d u t.0 in
       let at : NamedAt f.slots n = names_to_slots (λ k. slot_of m r.longfile (raw_of m (inode_root m r d) k)) (each_below ((inode_root m r d).size / 32) (λ k. k)) f.slots n (read_self d f.slots f.read) t.1 in
@@ -282,9 +283,9 @@ module _ (m : BlockMap) (r : Roots) (s : HasSize m) (none : finding_of m r ≡ N
       ∙ found_slots (slots_read m r.longfile (inode_root m r n)) (directory_found n (it_of n h) d).slots (directory_found n (it_of n h) d).read
 
   -- what a directory's records name, its slots name
-  names_in : (d n : ℕ) → is_in (inodes (taken_of m r)) d ≡ true → is_in (targets_of m r d) n ≡ true → Names (tree_found m r) d n
+  names_in : (d n : ℕ) → is_in (inodes (taken_of m r)) d ≡ true → is_in (named_inodes m r d) n ≡ true → Names (tree_found m r) d n
   names_in d n h k =
-      let w : (is_directory_inode m r d ≡ true) × (is_in (filter_map (λ k. target_of m r.longfile (raw_of m (inode_root m r d) k)) (each_below ((inode_root m r d).size / 32) (λ k. k))) n ≡ true) = targets_directory d n k in
+      let w : (is_directory_inode m r d ≡ true) × (is_in (filter_map (λ k. named_inode m r.longfile (raw_of m (inode_root m r d) k)) (each_below ((inode_root m r d).size / 32) (λ k. k))) n ≡ true) = names_in_directory d n k in
       let f : DirectoryFound d (it_of d h).it = directory_found d (it_of d h) w.0 in
       let at : NamedAt f.slots n = names_to_slots (λ k. slot_of m r.longfile (raw_of m (inode_root m r d) k)) (each_below ((inode_root m r d).size / 32) (λ k. k)) f.slots n (read_self d f.slots f.read) w.1 in
       (at.place, (at.slot, subst (λ z. slice_get z at.place ≡ Some at.slot) (sym (directory_slots d h w.0)) at.at, at.names))
@@ -315,12 +316,12 @@ module _ (m : BlockMap) (r : Roots) (s : HasSize m) (none : finding_of m r ≡ N
           record { walked = walked; dir = dir; at = subst (λ z. slice_get z k ≡ Some x) (directory_slots d walked dir) e }
 
   -- what a slot of the tree names is named
-  names_out : (d k n : ℕ) → NamesAt (tree_found m r) d k n → (is_in (inodes (taken_of m r)) d ≡ true) × (is_in (targets_of m r d) n ≡ true)
+  names_out : (d k n : ℕ) → NamesAt (tree_found m r) d k n → (is_in (inodes (taken_of m r)) d ≡ true) × (is_in (named_inodes m r d) n ≡ true)
   names_out d k n (x, at, names) =
       let f : SlotFound d k x = slot_found d k x at in
       let dir : DirectoryFound d (it_of d f.walked).it = directory_found d (it_of d f.walked) f.dir in (
         f.walked,
-        ap (λ b. is_in (if b then filter_map (λ k. target_of m r.longfile (raw_of m (inode_root m r d) k)) (each_below ((inode_root m r d).size / 32) (λ k. k)) else []) n) f.dir
+        ap (λ b. is_in (if b then filter_map (λ k. named_inode m r.longfile (raw_of m (inode_root m r d) k)) (each_below ((inode_root m r d).size / 32) (λ k. k)) else []) n) f.dir
             ∙ slots_to_names (λ k. slot_of m r.longfile (raw_of m (inode_root m r d) k)) (each_below ((inode_root m r d).size / 32) (λ k. k)) dir.slots n k x (read_self d dir.slots dir.read) f.at names,
       )
 
@@ -338,7 +339,7 @@ module _ (m : BlockMap) (r : Roots) (s : HasSize m) (none : finding_of m r ≡ N
   -- what is reached was taken
   reached_walked : (n : ℕ) → Reached (tree_found m r) n → is_in (inodes (taken_of m r)) n ≡ true
   reached_walked n top = (walk_closed m r rows_in_range).0
-  reached_walked n (down {d} h names) = let k : (is_in (inodes (taken_of m r)) d ≡ true) × (is_in (targets_of m r d) n ≡ true) = names_out d names.0 n names.1 in (walk_closed m r rows_in_range).1 d n k.0 k.1
+  reached_walked n (down {d} h names) = let k : (is_in (inodes (taken_of m r)) d ≡ true) × (is_in (named_inodes m r d) n ≡ true) = names_out d names.0 n names.1 in (walk_closed m r rows_in_range).1 d n k.0 k.1
 
   -- and has an entry
   closed : (n : ℕ) → Reached (tree_found m r) n → (e : Entry) × (entry_of (tree_found m r) n ≡ Some e)
@@ -351,7 +352,7 @@ module _ (m : BlockMap) (r : Roots) (s : HasSize m) (none : finding_of m r ≡ N
     pub parent : p ≡ parent_of n
 
   -- a directory of the tree is one that was taken
-  directory_is : (n p : ℕ) → IsDirectoryIn (tree_found m r) n p → DirectoryIs n p
+  directory_is : (n p : ℕ) → IsDirectory (tree_found m r) n p → DirectoryIs n p
   directory_is n p (e, slots, at, is) =
       let known : (is_in (inodes (taken_of m r)) n ≡ true) × (e ≡ entry_found m r (parent_of n) n) = in_entry m r n e at in
       let both : (is_directory_inode m r n ≡ true) × (p ≡ parent_of n) = go (kind_of (inode_mode m r n)) (sym (ap (λ z. z.body) known.1) ∙ is) in
@@ -376,7 +377,7 @@ module _ (m : BlockMap) (r : Roots) (s : HasSize m) (none : finding_of m r ≡ N
       go f k e = subst (λ z. parent_in (taken_from m r z ((1, 1) ∷ []) (1 ∷ [])) 1 ≡ 1) (sym e) refl
 
   -- a directory that was taken is one of the tree
-  is_directory : (n : ℕ) → is_in (inodes (taken_of m r)) n ≡ true → is_directory_inode m r n ≡ true → IsDirectoryIn (tree_found m r) n (parent_of n)
+  is_directory : (n : ℕ) → is_in (inodes (taken_of m r)) n ≡ true → is_directory_inode m r n ≡ true → IsDirectory (tree_found m r) n (parent_of n)
   is_directory n h d = (
     entry_found m r (parent_of n) n,
     slots_found m r.longfile (inode_root m r n),
@@ -385,11 +386,11 @@ module _ (m : BlockMap) (r : Roots) (s : HasSize m) (none : finding_of m r ≡ N
   )
 
   -- inode 1 is one, and its own parent
-  top_is : IsDirectoryIn (tree_found m r) 1 1
-  top_is = subst (λ p. IsDirectoryIn (tree_found m r) 1 p) parent_of_one (is_directory 1 one_walked top_there.1)
+  top_is : IsDirectory (tree_found m r) 1 1
+  top_is = subst (λ p. IsDirectory (tree_found m r) 1 p) parent_of_one (is_directory 1 one_walked top_there.1)
 
   -- each other one is named by its parent
-  parent_is : (d p : ℕ) → IsDirectoryIn (tree_found m r) d p → d ≢ 1 → Names (tree_found m r) p d
+  parent_is : (d p : ℕ) → IsDirectory (tree_found m r) d p → d ≢ 1 → Names (tree_found m r) p d
   parent_is d p dir isnt =
       let k : DirectoryIs d p = directory_is d p dir in
       elim (parent_known d k.walked).0 [
@@ -412,11 +413,11 @@ module _ (m : BlockMap) (r : Roots) (s : HasSize m) (none : finding_of m r ≡ N
       true_or_false (is_in u.it.listed 1) (taken_listed m r (inode_places r + 1) ((1, 1) ∷ []) (1 ∷ []) 1 refl u.it u.among) (not_listed d names.0 1 names.1 top_there.1)
 
   -- no two rows name one directory
-  once : (d k c j n p : ℕ) → NamesAt (tree_found m r) d k n → NamesAt (tree_found m r) c j n → IsDirectoryIn (tree_found m r) n p → (d ≡ c) × (k ≡ j)
+  once : (d k c j n p : ℕ) → NamesAt (tree_found m r) d k n → NamesAt (tree_found m r) c j n → IsDirectory (tree_found m r) n p → (d ≡ c) × (k ≡ j)
   once d k c j n p a b dir =
       let is : is_directory_inode m r n ≡ true = (directory_is n p dir).dir in
-      let oa : (is_in (inodes (taken_of m r)) d ≡ true) × (is_in (targets_of m r d) n ≡ true) = names_out d k n a in
-      let ob : (is_in (inodes (taken_of m r)) c ≡ true) × (is_in (targets_of m r c) n ≡ true) = names_out c j n b in
+      let oa : (is_in (inodes (taken_of m r)) d ≡ true) × (is_in (named_inodes m r d) n ≡ true) = names_out d k n a in
+      let ob : (is_in (inodes (taken_of m r)) c ≡ true) × (is_in (named_inodes m r c) n ≡ true) = names_out c j n b in
       let u : TakenWith (taken_of m r) d (parent_of d) = it_of d oa.0 in
       let w : TakenWith (taken_of m r) c (parent_of c) = it_of c ob.0 in
       elim (taken_order m r (inode_places r + 1) ((1, 1) ∷ []) (1 ∷ []) u.it w.it u.among w.among) [
@@ -424,8 +425,8 @@ module _ (m : BlockMap) (r : Roots) (s : HasSize m) (none : finding_of m r ≡ N
             let dc : d ≡ c = sym u.inode ∙ same ∙ w.inode in
             (dc, within d k j n a (subst (λ z. NamesAt (tree_found m r) z j n) (sym dc) b) is)
         | inr order ↦ elim order [
-          | inl before ↦ absurd (true_or_false (is_in w.it.listed n) (before n (subst (λ z. is_in (targets_of m r z) n ≡ true) (sym u.inode) oa.1)) (not_listed c j n b is))
-          | inr after ↦ absurd (true_or_false (is_in u.it.listed n) (after n (subst (λ z. is_in (targets_of m r z) n ≡ true) (sym w.inode) ob.1)) (not_listed d k n a is))
+          | inl before ↦ absurd (true_or_false (is_in w.it.listed n) (before n (subst (λ z. is_in (named_inodes m r z) n ≡ true) (sym u.inode) oa.1)) (not_listed c j n b is))
+          | inr after ↦ absurd (true_or_false (is_in u.it.listed n) (after n (subst (λ z. is_in (named_inodes m r z) n ≡ true) (sym w.inode) ob.1)) (not_listed d k n a is))
         ]
       ]
     where
@@ -436,7 +437,7 @@ module _ (m : BlockMap) (r : Roots) (s : HasSize m) (none : finding_of m r ≡ N
           once_within m r u.it.inode u.it.parent [] u.it.listed (directory_found d u f.dir).slots (directory_found d u f.dir).pass k j n x y f.at (subst (λ z. slice_get z j ≡ Some y) (directory_slots d f.walked f.dir) bt) names mames is
 
   -- the rows of a directory are as they must be
-  rows : (d p : ℕ) → IsDirectoryIn (tree_found m r) d p → AreRows d p (slots_of (tree_found m r) d)
+  rows : (d p : ℕ) → IsDirectory (tree_found m r) d p → AreRows d p (slots_of (tree_found m r) d)
   rows d p dir =
       let k : DirectoryIs d p = directory_is d p dir in
       let u : TakenWith (taken_of m r) d (parent_of d) = it_of d k.walked in

@@ -20,7 +20,7 @@ use Rattle.qx_nodes.specs.Visits.{AgreesOn, IsMet, LiesBelow, Visit, is_leaf, vi
 use Rattle.qx_records.specs.InodeRecord.{inode_in}
 use Rattle.qx_records.specs.NameRecord.{Bad, Long, RawRecord, Short, Unused, long_name_in, raw_in}
 use Rattle.qx_view.specs.Images.{Roots, has_inode, inode_of, long_name, name_at_leaf, places_in, raw_of}
-use Rattle.qx_view.specs.Reading.{HasNode, IsBody, IsEntry, IsHeld, IsNode, IsOfKind, IsTreeOf, OfBeside, OfInode, OfInodes, OfLongfile, Owner, StandsAt, attr_of, long_slot, slot_of, slots_read}
+use Rattle.qx_view.specs.Reading.{HasNode, IsBody, IsEntry, IsHeld, IsNode, IsOfKind, IsTreeOf, OfFurther, OfInode, OfInodes, OfLongfile, Owner, StandsAt, attr_of, long_slot, slot_of, slots_read}
 
 -- the inodes that have a place stand within the Inode tree's size
 pub place_within : (inodes : Root) (n : ℕ) → IsTrue (has_inode inodes n) → n * 128 ≤ inodes.size
@@ -130,7 +130,7 @@ module _ (m : BlockMap) (g : ℕ → List ℕ) (r : Roots) (t : Tree) (s : HasSi
   has_node_back : (o : Owner) (node : Root) → HasNode (with_bytes m g) r t o node → HasNode m r t o node
   has_node_back OfInodes node h = h
   has_node_back OfLongfile node h = h
-  has_node_back (OfBeside k) node h = h
+  has_node_back (OfFurther k) node h = h
   has_node_back (OfInode n) node (e, at, some, root) =
       let i : IsEntry m r n e = is.each n e at in
       (e, at, some, root ∙ sym (ap (λ x. x.root) (inode_same n i.positive i.there)))
@@ -162,7 +162,7 @@ module _ (m : BlockMap) (g : ℕ → List ℕ) (r : Roots) (t : Tree) (s : HasSi
   tree_local = record {
     inodes_fit = is.inodes_fit;
     longfile_fits = is.longfile_fits;
-    beside_fit = is.beside_fit;
+    further_fit = is.further_fit;
     rooted = is.rooted;
     places = is.places;
     each = entry_local;

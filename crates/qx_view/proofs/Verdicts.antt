@@ -7,7 +7,7 @@ use Rattle.qx_nodes.specs.BlockMap.{BlockMap}
 use Rattle.qx_super.specs.Active.{active_area, active_super}
 use Rattle.qx_super.specs.Superblock.{Superblock}
 use Rattle.qx_view.proofs.ApartPositions.{tree_is}
-use Rattle.qx_view.proofs.ImageTrees.{HasSize-image_blocks}
+use Rattle.qx_view.proofs.ImageTrees.{HasSize-image_blocks, some_same}
 use Rattle.qx_view.proofs.TestsAndTree.{no_test_fails}
 use Rattle.qx_view.proofs.TreeFound.{tree_found}
 use Rattle.qx_view.specs.Images.{Roots, image_blocks, main_roots}
@@ -16,19 +16,20 @@ use Rattle.qx_view.specs.Walk.{Finding, finding_of}
 use Rattle.qx_super.specs.declared.choice.Pick.{Pick}
 use Rattle.qx_super.specs.declared.choice.Pick.TheVariants as picks
 
--- a clean verdict has no finding, no reason and no last finding
-clear_of : (f : Option Finding) (reason : Option Reason) (last : Option Finding) → verdict_by f reason last ≡ Clean → (f ≡ None) × (reason ≡ None) × (last ≡ None)
-clear_of (Some f) reason last e = absurd (cc)
-clear_of None (Some reason) last e = absurd (cc)
-clear_of None None (Some f) e = absurd (cc)
-clear_of None None None e = (refl, refl, refl)
+-- a clean verdict is with this area and its superblock, and has no finding, no reason and no last finding
+clear_of : (which area : Which) (s u : Superblock) (f : Option Finding) (reason : Option Reason) (last : Option Finding) → verdict_by which s f reason last ≡ Clean area u
+    → (which ≡ area) × (s ≡ u) × (f ≡ None) × (reason ≡ None) × (last ≡ None)
+clear_of which area s u (Some f) reason last e = absurd (cc)
+clear_of which area s u None (Some reason) last e = absurd (cc)
+clear_of which area s u None None (Some f) e = absurd (cc)
+clear_of which area s u None None None e = (cc, cc, refl, refl, refl)
 
 -- a foreign one has no finding, and this reason
-foreign_of : (f : Option Finding) (reason : Option Reason) (last : Option Finding) (why : Reason) → verdict_by f reason last ≡ Foreign why → (f ≡ None) × (reason ≡ Some why)
-foreign_of (Some f) reason last why e = absurd (cc)
-foreign_of None (Some reason) last why e = (refl, cc)
-foreign_of None None (Some f) why e = absurd (cc)
-foreign_of None None None why e = absurd (cc)
+foreign_of : (which : Which) (s : Superblock) (f : Option Finding) (reason : Option Reason) (last : Option Finding) (why : Reason) → verdict_by which s f reason last ≡ Foreign why → (f ≡ None) × (reason ≡ Some why)
+foreign_of which s (Some f) reason last why e = absurd (cc)
+foreign_of which s None (Some reason) last why e = (refl, cc)
+foreign_of which s None None (Some f) why e = absurd (cc)
+foreign_of which s None None None why e = absurd (cc)
 
 -- what an image with an area's superblock is, by its verdict
 pub record IsJudged (img : List ℕ) (v : Verdict) : Type 0 where
@@ -49,21 +50,29 @@ judged_at img v some alike (picks.Active which) at e = judged_with img which v a
 judged_at img v some alike picks.None at e = absurd (some (sym e))
 judged_at img v some alike picks.Disagree at e = absurd (alike (sym e))
 
--- a clean image is sound
-pub clean_sound : (img : List ℕ) → verdict_of img ≡ Clean → (t : Tree) × IsSound img t
-clean_sound img e =
-    let j : IsJudged img Clean = judged_at img Clean (λ q. cc) (λ q. cc) (active_area img) refl e in
+-- a clean image is sound, with this active area and its superblock
+pub clean_sound : (img : List ℕ) (area : Which) (s : Superblock) → verdict_of img ≡ Clean area s → (active_area img ≡ picks.Active area) × (active_super img ≡ Some s) × ((t : Tree) × IsSound img t)
+clean_sound img area s e =
+    let j : IsJudged img (Clean area s) = judged_at img (Clean area s) (λ q. cc) (λ q. cc) (active_area img) refl e in
     let m : BlockMap = image_blocks img j.superblock in
     let r : Roots = main_roots j.superblock in
-    let clear : (finding_of m r ≡ None) × (reason_of m j.superblock j.area (length img) ≡ None) × (last_finding m j.superblock (length img) ≡ None) = clear_of (finding_of m r) (reason_of m j.superblock j.area (length img)) (last_finding m j.superblock (length img)) j.judged in
-    (tree_found m r, record { area = j.area; superblock = j.superblock; active = j.active; names = j.names; tree = tree_is m r (HasSize-image_blocks img j.superblock j.names) clear.0; no_reason = clear.1; no_last = clear.2 })
+    let clear : (j.area ≡ area) × (j.superblock ≡ s) × (finding_of m r ≡ None) × (reason_of m j.superblock j.area (length img) ≡ None) × (last_finding m j.superblock (length img) ≡ None) =
+    clear_of j.area area j.superblock s (finding_of m r) (reason_of m j.superblock j.area (length img)) (last_finding m j.superblock (length img)) j.judged in (
+      j.active ∙ ap (λ a. picks.Active a) clear.0,
+      j.names ∙ ap (λ x. Some x) clear.1,
+      (tree_found m r, record { area = j.area; superblock = j.superblock; active = j.active; names = j.names; tree = tree_is m r (HasSize-image_blocks img j.superblock j.names) clear.2; no_reason = clear.3; no_last = clear.4 }),
+    )
 
--- and a sound image is clean
-pub sound_clean : (img : List ℕ) (t : Tree) → IsSound img t → verdict_of img ≡ Clean
-sound_clean img t s =
-    let m : BlockMap = image_blocks img s.superblock in
-    let none : finding_of m (main_roots s.superblock) ≡ None = no_test_fails m (main_roots s.superblock) t (HasSize-image_blocks img s.superblock s.names) s.tree in
-    ap (λ p. verdict_at img p) s.active ∙ ap (λ o. verdict_with img s.area o) s.names ∙ (λ i. verdict_by (none i) (s.no_reason i) (s.no_last i))
+-- and a sound image with this active area and superblock is clean with them
+pub sound_clean : (img : List ℕ) (t : Tree) (area : Which) (s : Superblock) → IsSound img t → active_area img ≡ picks.Active area → active_super img ≡ Some s → verdict_of img ≡ Clean area s
+sound_clean img t area s sound active names =
+    let u : Superblock = sound.superblock in
+    let m : BlockMap = image_blocks img u in
+    let none : finding_of m (main_roots u) ≡ None = no_test_fails m (main_roots u) t (HasSize-image_blocks img u sound.names) sound.tree in
+    let same : u ≡ s = some_same u s (sym sound.names ∙ names) in
+    let which : sound.area ≡ area = (let e : picks.Active sound.area ≡ picks.Active area = sym sound.active ∙ active in cc) in
+    ap (λ p. verdict_at img p) sound.active ∙ ap (λ o. verdict_with img sound.area o) sound.names
+    ∙ (λ i. verdict_by sound.area u (none i) (sound.no_reason i) (sound.no_last i)) ∙ (λ i. Clean (which i) (same i))
 
 -- a foreign image has a tree and this reason
 pub judged_foreign : (img : List ℕ) (why : Reason) → verdict_of img ≡ Foreign why → IsForeign img why
@@ -71,7 +80,7 @@ judged_foreign img why e =
     let j : IsJudged img (Foreign why) = judged_at img (Foreign why) (λ q. cc) (λ q. cc) (active_area img) refl e in
     let m : BlockMap = image_blocks img j.superblock in
     let r : Roots = main_roots j.superblock in
-    let clear : (finding_of m r ≡ None) × (reason_of m j.superblock j.area (length img) ≡ Some why) = foreign_of (finding_of m r) (reason_of m j.superblock j.area (length img)) (last_finding m j.superblock (length img)) why j.judged in
+    let clear : (finding_of m r ≡ None) × (reason_of m j.superblock j.area (length img) ≡ Some why) = foreign_of j.area j.superblock (finding_of m r) (reason_of m j.superblock j.area (length img)) (last_finding m j.superblock (length img)) why j.judged in
     record { area = j.area; superblock = j.superblock; active = j.active; names = j.names; tree = tree_found m r; has = tree_is m r (HasSize-image_blocks img j.superblock j.names) clear.0; reason = clear.1 }
 
 -- and an image with a tree and a reason is foreign
@@ -80,30 +89,30 @@ foreign_judged img why f =
     let m : BlockMap = image_blocks img f.superblock in
     let none : finding_of m (main_roots f.superblock) ≡ None = no_test_fails m (main_roots f.superblock) f.tree (HasSize-image_blocks img f.superblock f.names) f.has in
     ap (λ p. verdict_at img p) f.active ∙ ap (λ o. verdict_with img f.area o) f.names
-    ∙ (λ i. verdict_by (none i) (f.reason i) (last_finding m f.superblock (length img)))
+    ∙ (λ i. verdict_by f.area f.superblock (none i) (f.reason i) (last_finding m f.superblock (length img)))
 
 -- the verdict is damaged by what is found, and by nothing else
-damaged_of : (walk : Option Finding) (reason : Option Reason) (last : Option Finding) (f : Finding) → verdict_by walk reason last ≡ Damaged f → IsFinding walk reason last f
-damaged_of (Some g) reason last f e = inl (cc)
-damaged_of None (Some reason) last f e = absurd (cc)
-damaged_of None None (Some g) f e = inr (refl, refl, cc)
-damaged_of None None None f e = absurd (cc)
+damaged_of : (which : Which) (s : Superblock) (walk : Option Finding) (reason : Option Reason) (last : Option Finding) (f : Finding) → verdict_by which s walk reason last ≡ Damaged f → IsFinding walk reason last f
+damaged_of which s (Some g) reason last f e = inl (cc)
+damaged_of which s None (Some reason) last f e = absurd (cc)
+damaged_of which s None None (Some g) f e = inr (refl, refl, cc)
+damaged_of which s None None None f e = absurd (cc)
 
 -- and what is found is the verdict
-damaged_by : (walk : Option Finding) (reason : Option Reason) (last : Option Finding) (f : Finding) → IsFinding walk reason last f → verdict_by walk reason last ≡ Damaged f
-damaged_by walk reason last f (inl e) = ap (λ w. verdict_by w reason last) e
-damaged_by walk reason last f (inr (e, none, l)) = λ i. verdict_by (e i) (none i) (l i)
+damaged_by : (which : Which) (s : Superblock) (walk : Option Finding) (reason : Option Reason) (last : Option Finding) (f : Finding) → IsFinding walk reason last f → verdict_by which s walk reason last ≡ Damaged f
+damaged_by which s walk reason last f (inl e) = ap (λ w. verdict_by which s w reason last) e
+damaged_by which s walk reason last f (inr (e, none, l)) = λ i. verdict_by which s (e i) (none i) (l i)
 
 -- an image that is judged damaged has this finding
 pub judged_damaged : (img : List ℕ) (f : Finding) → verdict_of img ≡ Damaged f → IsDamaged img f
 judged_damaged img f e =
     let j : IsJudged img (Damaged f) = judged_at img (Damaged f) (λ q. cc) (λ q. cc) (active_area img) refl e in
     let m : BlockMap = image_blocks img j.superblock in
-    record { area = j.area; superblock = j.superblock; active = j.active; names = j.names; found = damaged_of (finding_of m (main_roots j.superblock)) (reason_of m j.superblock j.area (length img)) (last_finding m j.superblock (length img)) f j.judged }
+    record { area = j.area; superblock = j.superblock; active = j.active; names = j.names; found = damaged_of j.area j.superblock (finding_of m (main_roots j.superblock)) (reason_of m j.superblock j.area (length img)) (last_finding m j.superblock (length img)) f j.judged }
 
 -- and an image that has it is judged so
 pub damaged_judged : (img : List ℕ) (f : Finding) → IsDamaged img f → verdict_of img ≡ Damaged f
 damaged_judged img f d =
     let m : BlockMap = image_blocks img d.superblock in
     ap (λ p. verdict_at img p) d.active ∙ ap (λ o. verdict_with img d.area o) d.names
-    ∙ damaged_by (finding_of m (main_roots d.superblock)) (reason_of m d.superblock d.area (length img)) (last_finding m d.superblock (length img)) f d.found
+    ∙ damaged_by d.area d.superblock (finding_of m (main_roots d.superblock)) (reason_of m d.superblock d.area (length img)) (last_finding m d.superblock (length img)) f d.found

@@ -21,9 +21,9 @@ use Rattle.qx_view.proofs.NodesAlike.{AgreesAt, raw_alike}
 use Rattle.qx_view.proofs.TestsFromTree.{TakenIn, kind_here, taken_in}
 use Rattle.qx_view.proofs.TreeLocality.{agrees, inode_same, longfile_reaches, not_special, record_below, slot_local}
 use Rattle.qx_view.specs.Images.{Roots, inode_of, inode_places, raw_of}
-use Rattle.qx_view.specs.Reading.{IsHeld, IsNode, IsOfKind, IsTreeOf, OfBeside, OfInode, OfInodes, OfLongfile}
+use Rattle.qx_view.specs.Reading.{IsHeld, IsNode, IsOfKind, IsTreeOf, OfFurther, OfInode, OfInodes, OfLongfile}
 use Rattle.qx_view.specs.Sound.{is_special_inode, is_special_kind, outer_blocks, outer_nodes}
-use Rattle.qx_view.specs.Walk.{Taken, inode_mode, inode_root, is_directory_inode, is_directory_kind, listed_after, new_ones, taken_from, taken_of, target_of, targets_of, walked_inodes}
+use Rattle.qx_view.specs.Walk.{Taken, inode_mode, inode_root, is_directory_inode, is_directory_kind, listed_after, named_inode, named_inodes, new_ones, taken_from, taken_of, walked_inodes}
 
 -- a directory is no special
 pub directory_not_special : (o : Option Kind) → is_directory_kind o ≡ true → is_special_kind o ≡ false
@@ -39,8 +39,8 @@ if_alike true x y z same = same refl
 if_alike false x y z same = refl
 
 -- what an inode names, by the inode
-abbrev targets_by : BlockMap → Roots → Inode → List ℕ
-targets_by m r x = if is_directory_kind (kind_of x.mode) then filter_map (λ k. target_of m r.longfile (raw_of m x.root k)) (each_below (x.root.size / 32) (λ k. k)) else []
+abbrev named_inodes_by : BlockMap → Roots → Inode → List ℕ
+named_inodes_by m r x = if is_directory_kind (kind_of x.mode) then filter_map (λ k. named_inode m r.longfile (raw_of m x.root k)) (each_below (x.root.size / 32) (λ k. k)) else []
 
 module _ (m : BlockMap) (g : ℕ → List ℕ) (r : Roots) (t : Tree) (size : HasSize m) (is : IsTreeOf m r t) (held : (b : ℕ) → IsHeld m r t b → m.bytes b ≡ g b) where
   -- an inode to which the walk comes is the tree's
@@ -93,42 +93,42 @@ module _ (m : BlockMap) (g : ℕ → List ℕ) (r : Roots) (t : Tree) (size : Ha
     blocks = λ v c. is.undamaged OfInodes v (r.inodes, refl, c);
   }
 
-  -- and each root node beside them
-  pub beside_agrees : (k : ℕ) (node : Root) → slice_get r.beside k ≡ Some node → IsTrue (levels_fit m node) → AgreesAt m g node
-  beside_agrees k node at fit = record {
+  -- and each further root node
+  pub further_agrees : (k : ℕ) (node : Root) → slice_get r.further k ≡ Some node → IsTrue (levels_fit m node) → AgreesAt m g node
+  further_agrees k node at fit = record {
     reaches = reaches_of m node size fit;
-    on = agrees m g r t size is held (OfBeside k) node at;
-    blocks = λ v c. is.undamaged (OfBeside k) v (node, at, c);
+    on = agrees m g r t size is held (OfFurther k) node at;
+    blocks = λ v c. is.undamaged (OfFurther k) v (node, at, c);
   }
 
   -- ---- the walk
 
   -- what an inode names is the same
-  targets_alike : (n : ℕ) (e : Entry) → entry_of t n ≡ Some e → targets_of m r n ≡ targets_of (with_bytes m g) r n
-  targets_alike n e at =
+  named_alike : (n : ℕ) (e : Entry) → entry_of t n ≡ Some e → named_inodes m r n ≡ named_inodes (with_bytes m g) r n
+  named_alike n e at =
       if_alike (is_directory_inode m r n) _ _ [] (λ dir.
       let a : AgreesAt m g (inode_root m r n) = node_agrees n e at (directory_not_special (kind_of (inode_mode m r n)) dir) in
       filter_map_alike _ _ (each_below ((inode_root m r n).size / 32) (λ k. k)) (λ k c.
-      ap (λ raw. target_of m r.longfile raw) (raw_alike m g (inode_root m r n) k a (record_below k (inode_root m r n).size (below_members ((inode_root m r n).size / 32) k c)))
+      ap (λ raw. named_inode m r.longfile raw) (raw_alike m g (inode_root m r n) k a (record_below k (inode_root m r n).size (below_members ((inode_root m r n).size / 32) k c)))
       ∙ ap (λ slot. option_and_then named_by slot) (slot_local m g r.longfile longfile_agrees.reaches longfile_agrees.on (raw_of (with_bytes m g) (inode_root m r n) k))))
-      ∙ ap (targets_by (with_bytes m g) r) (same_inode n e at)
+      ∙ ap (named_inodes_by (with_bytes m g) r) (same_inode n e at)
 
   -- so is what is taken, where all that is taken names the same
-  taken_alike : (fuel : ℕ) (queue : List (ℕ × ℕ)) (listed : List ℕ) → ((u : Taken) → Contains (taken_from m r fuel queue listed) u → targets_of m r u.inode ≡ targets_of (with_bytes m g) r u.inode)
+  taken_alike : (fuel : ℕ) (queue : List (ℕ × ℕ)) (listed : List ℕ) → ((u : Taken) → Contains (taken_from m r fuel queue listed) u → named_inodes m r u.inode ≡ named_inodes (with_bytes m g) r u.inode)
       → taken_from m r fuel queue listed ≡ taken_from (with_bytes m g) r fuel queue listed
   taken_alike zero queue listed same = refl
   taken_alike (suc fuel) [] listed same = refl
   taken_alike (suc fuel) (e ∷ queue) listed same =
       let first : Taken = record { inode = e.0; parent = e.1; listed = listed } in
-      let targets : targets_of m r e.0 ≡ targets_of (with_bytes m g) r e.0 = same first (Contains-head first (taken_from m r fuel (queue ++ map (λ n. (n, e.0)) (new_ones (targets_of m r e.0) listed)) (listed_after (targets_of m r e.0) listed))) in
+      let same_named : named_inodes m r e.0 ≡ named_inodes (with_bytes m g) r e.0 = same first (Contains-head first (taken_from m r fuel (queue ++ map (λ n. (n, e.0)) (new_ones (named_inodes m r e.0) listed)) (listed_after (named_inodes m r e.0) listed))) in
       ap (λ rest. first ∷ rest) (
-      taken_alike fuel (queue ++ map (λ n. (n, e.0)) (new_ones (targets_of m r e.0) listed)) (listed_after (targets_of m r e.0) listed)
-      (λ u c. same u (Contains-cons first u (taken_from m r fuel (queue ++ map (λ n. (n, e.0)) (new_ones (targets_of m r e.0) listed)) (listed_after (targets_of m r e.0) listed)) c))
-      ∙ ap (λ ts. taken_from (with_bytes m g) r fuel (queue ++ map (λ n. (n, e.0)) (new_ones ts listed)) (listed_after ts listed)) targets)
+      taken_alike fuel (queue ++ map (λ n. (n, e.0)) (new_ones (named_inodes m r e.0) listed)) (listed_after (named_inodes m r e.0) listed)
+      (λ u c. same u (Contains-cons first u (taken_from m r fuel (queue ++ map (λ n. (n, e.0)) (new_ones (named_inodes m r e.0) listed)) (listed_after (named_inodes m r e.0) listed)) c))
+      ∙ ap (λ ts. taken_from (with_bytes m g) r fuel (queue ++ map (λ n. (n, e.0)) (new_ones ts listed)) (listed_after ts listed)) same_named)
 
   -- the walk comes to the same inodes
   pub walked_alike : walked_inodes m r ≡ walked_inodes (with_bytes m g) r
-  walked_alike = ap (λ ts. map (λ (x : Taken). x.inode) ts) (taken_alike (inode_places r + 1) ((1, 1) ∷ []) (1 ∷ []) (λ u c. let x : TakenIn m r t is u = taken_in m r t is u c in targets_alike u.inode x.entry x.at))
+  walked_alike = ap (λ ts. map (λ (x : Taken). x.inode) ts) (taken_alike (inode_places r + 1) ((1, 1) ∷ []) (1 ∷ []) (λ u c. let x : TakenIn m r t is u = taken_in m r t is u c in named_alike u.inode x.entry x.at))
 
   -- ---- the nodes outside the halves
 

@@ -6,7 +6,7 @@ use Rattle.qx_geom.proofs.Members.{in_append_cases, in_cases, in_head, in_left, 
 use Rattle.qx_geom.specs.Lists.{is_in}
 use Rattle.qx_nodes.specs.BlockMap.{BlockMap}
 use Rattle.qx_view.specs.Images.{Roots, inode_places}
-use Rattle.qx_view.specs.Walk.{Taken, listed_after, new_ones, taken_from, taken_of, targets_of}
+use Rattle.qx_view.specs.Walk.{Taken, listed_after, named_inodes, new_ones, taken_from, taken_of}
 
 -- the numbers from 1 to p that are not listed
 abbrev pub unlisted : ℕ → List ℕ → ℕ
@@ -124,12 +124,12 @@ length-queue (e ∷ q) d ns = omega (arith, length-queue q d ns)
 
 -- the inodes that these name are in range
 abbrev pub RowsInRange : BlockMap → Roots → ℕ → List Taken → Type 0
-RowsInRange m r p ts = (d n : ℕ) → is_in (inodes ts) d ≡ true → is_in (targets_of m r d) n ≡ true → (0 < n) × (n ≤ p)
+RowsInRange m r p ts = (d n : ℕ) → is_in (inodes ts) d ≡ true → is_in (named_inodes m r d) n ≡ true → (0 < n) × (n ≤ p)
 
 -- what is listed or named is taken, unless it was listed before
 pub record IsClosedRun (m : BlockMap) (r : Roots) (queue : List (ℕ × ℕ)) (listed : List ℕ) (ts : List Taken) : Type 0 where
   pub queued : (n : ℕ) → is_in (firsts queue) n ≡ true → is_in (inodes ts) n ≡ true
-  pub named : (d n : ℕ) → is_in (inodes ts) d ≡ true → is_in (targets_of m r d) n ≡ true → (is_in listed n ≡ true) ⊎ (is_in (inodes ts) n ≡ true)
+  pub named : (d n : ℕ) → is_in (inodes ts) d ≡ true → is_in (named_inodes m r d) n ≡ true → (is_in listed n ≡ true) ⊎ (is_in (inodes ts) n ≡ true)
 
 -- with enough fuel all is taken
 pub taken_closed : (m : BlockMap) (r : Roots) (p fuel : ℕ) (queue : List (ℕ × ℕ)) (listed : List ℕ) → length queue + unlisted p listed ≤ fuel → RowsInRange m r p (taken_from m r fuel queue listed) → IsClosedRun m r queue listed (taken_from m r fuel queue listed)
@@ -137,7 +137,7 @@ taken_closed m r p zero [] listed room all = record { queued = λ n h. absurd (c
 taken_closed m r p zero (e ∷ queue) listed room all = absurd (omega arith)
 taken_closed m r p (suc fuel) [] listed room all = record { queued = λ n h. absurd (cc); named = λ d n h k. absurd (cc) }
 taken_closed m r p (suc fuel) (e ∷ queue) listed room all =
-    let ns : List ℕ = targets_of m r e.0 in
+    let ns : List ℕ = named_inodes m r e.0 in
     let new : List ℕ = new_ones ns listed in
     let after : List ℕ = listed_after ns listed in
     let more : List (ℕ × ℕ) = queue ++ map (λ n. (n, e.0)) new in
@@ -152,7 +152,7 @@ taken_closed m r p (suc fuel) (e ∷ queue) listed room all =
         | inr there ↦ in_tail e.0 n (inodes rest) (ih.queued n (subst (λ z. is_in z n ≡ true) (sym (firsts-append queue e.0 new)) (in_left (firsts queue) new n there)))
       ];
       named = λ d n h k. elim (in_cases e.0 d (inodes rest) h) [
-        | inl is ↦ either n (named_listed ns listed n (inl (subst (λ z. is_in (targets_of m r z) n ≡ true) (sym is) k)))
+        | inl is ↦ either n (named_listed ns listed n (inl (subst (λ z. is_in (named_inodes m r z) n ≡ true) (sym is) k)))
         | inr there ↦ elim (ih.named d n there k) [ inl l ↦ either n l | inr w ↦ inr (in_tail e.0 n (inodes rest) w) ]
       ];
     }
@@ -167,7 +167,7 @@ unlisted_start (suc p) listed = omega (arith, unlisted_start p listed, at_most (
     at_most false = omega arith
 
 -- inode 1 is walked, and what a walked directory names
-pub walk_closed : (m : BlockMap) (r : Roots) → RowsInRange m r (inode_places r) (taken_of m r) → (is_in (inodes (taken_of m r)) 1 ≡ true) × ((d n : ℕ) → is_in (inodes (taken_of m r)) d ≡ true → is_in (targets_of m r d) n ≡ true → is_in (inodes (taken_of m r)) n ≡ true)
+pub walk_closed : (m : BlockMap) (r : Roots) → RowsInRange m r (inode_places r) (taken_of m r) → (is_in (inodes (taken_of m r)) 1 ≡ true) × ((d n : ℕ) → is_in (inodes (taken_of m r)) d ≡ true → is_in (named_inodes m r d) n ≡ true → is_in (inodes (taken_of m r)) n ≡ true)
 walk_closed m r all =
     let p : ℕ = inode_places r in
     let run : IsClosedRun m r ((1, 1) ∷ []) (1 ∷ []) (taken_of m r) = taken_closed m r p (p + 1) ((1, 1) ∷ []) (1 ∷ []) (omega (arith, unlisted_start p (1 ∷ []))) all in
@@ -177,7 +177,7 @@ walk_closed m r all =
 -- the least set that has 1 and what a record of one of its directories names
 pub data Named (m : BlockMap) (r : Roots) : ℕ → Type 0 where
   first : Named m r 1
-  next : {d n : ℕ} → Named m r d → is_in (targets_of m r d) n ≡ true → Named m r n
+  next : {d n : ℕ} → Named m r d → is_in (named_inodes m r d) n ≡ true → Named m r n
 
 -- what is new was named
 pub new_among : (ns listed : List ℕ) (k : ℕ) → is_in (new_ones ns listed) k ≡ true → is_in ns k ≡ true
@@ -197,7 +197,7 @@ pub taken_named : (m : BlockMap) (r : Roots) (fuel : ℕ) (queue : List (ℕ × 
 taken_named m r zero queue listed all n h = absurd (cc)
 taken_named m r (suc fuel) [] listed all n h = absurd (cc)
 taken_named m r (suc fuel) (e ∷ queue) listed all n h =
-    let ns : List ℕ = targets_of m r e.0 in
+    let ns : List ℕ = named_inodes m r e.0 in
     let more : List (ℕ × ℕ) = queue ++ map (λ k. (k, e.0)) (new_ones ns listed) in
     let here : Named m r e.0 = all e.0 (in_head e.0 (firsts queue)) in
     elim (in_cases e.0 n (inodes (taken_from m r fuel more (listed_after ns listed))) h) [

@@ -6,7 +6,7 @@ use Rattle.qx_fields.specs.declared.order.Order.TheVariants.{Little}
 use Rattle.qx_fields.specs.Number.{digits}
 use Rattle.qx_geom.specs.declared.root.Root.{Root}
 use Rattle.qx_geom.specs.Pointer.{absent}
-use Rattle.qx_model.specs.Tree.{Directory, Free, Row, Tree}
+use Rattle.qx_model.specs.Tree.{Directory, Unused, Row, Tree}
 use Rattle.qx_nodes.specs.BlockMap.{BlockMap}
 use Rattle.qx_super.specs.Superblock.{Superblock}
 use Rattle.qx_view.specs.Images.{Roots}
@@ -75,7 +75,7 @@ one_file order = record {
 
 -- where its tree begins
 abbrev pub small_roots : Roots
-small_roots = record { inodes = one_pointer 512 2; longfile = one_pointer 0 absent; beside = one_pointer 1 1 ∷ [] }
+small_roots = record { inodes = one_pointer 512 2; longfile = one_pointer 0 absent; further = one_pointer 1 1 ∷ [] }
 
 -- ---- a directory of 2^48 bytes under 5 levels
 
@@ -150,7 +150,7 @@ empty_tree = record {
     attr = record { mode = 0x41ED; uid = 0; gid = 0; ftime = 0; mtime = 0; atime = 0; ctime = 0 };
     size = 512;
     present = 0 ∷ [];
-    body = Directory (Row 1 (46 ∷ []) None ∷ Row 1 (46 ∷ 46 ∷ []) None ∷ replicate 14 Free) 1;
+    body = Directory (Row 1 (46 ∷ []) None ∷ Row 1 (46 ∷ 46 ∷ []) None ∷ replicate 14 Unused) 1;
   }) ∷ replicate 15 None;
   long_size = 0;
   long_names = [];
@@ -182,4 +182,79 @@ with_long_row number sum = made_but ((10, dots_bytes 1 1 ++ long_row_bytes numbe
 
 -- where the tree begins if block 20 is the Longfile's first leaf
 abbrev pub long_roots : Roots
-long_roots = record { inodes = made_super.inode; longfile = one_pointer 512 20; beside = made_super.bitmap ∷ [] }
+long_roots = record { inodes = made_super.inode; longfile = one_pointer 512 20; further = made_super.bitmap ∷ [] }
+
+-- with these rows in the top directory and in two others, which are inodes 2 and 3 in blocks 11 and 12
+abbrev pub with_directories : List ℕ → List ℕ → List ℕ → BlockMap
+with_directories top second third =
+    made_but ((6, directory_bytes 10 ++ directory_bytes 11 ++ directory_bytes 12) ∷ (10, dots_bytes 1 1 ++ top) ∷ (11, dots_bytes 2 1 ++ second) ∷ (12, dots_bytes 3 1 ++ third) ∷ (5, bitmap_bytes 31) ∷ [])
+
+-- with these rows in the top directory and in inode 2, which is a directory in block 11; inode 3 is a file of 6 levels, and inode 4 a link of size 0
+abbrev pub with_faulty : List ℕ → List ℕ → BlockMap
+with_faulty top second =
+    made_but ((6, directory_bytes 10 ++ directory_bytes 11 ++ inode_bytes_with 0 0x81A4 6 3 [] ++ inode_bytes_with 0 0xA1FF 0 3 []) ∷ (10, dots_bytes 1 1 ++ top) ∷ (11, dots_bytes 2 1 ++ second) ∷ [])
+
+-- a long row of inode n
+abbrev pub long_row_of : ℕ → ℕ → ℕ → List ℕ
+long_row_of n number sum = filled 32 (digits Little 4 n ++ 255 ∷ 0 ∷ 0 ∷ 0 ∷ [] ++ digits Little 4 number ++ digits Little 4 sum)
+
+-- with long name 1, `abc`, in block 12, which a row of inode 3 in the top directory has; and with these rows in inode 2, a directory in block 11
+abbrev pub with_long_name : List ℕ → BlockMap
+with_long_name second =
+    made_but ((6, directory_bytes 10 ++ directory_bytes 11 ++ inode_bytes_with 0 0x81A4 0 3 []) ∷ (10, dots_bytes 1 1 ++ row_bytes 2 (100 ∷ []) ++ long_row_of 3 1 0x400000AC)
+    ∷ (11, dots_bytes 2 1 ++ second) ∷ (12, 3 ∷ 0 ∷ 97 ∷ 98 ∷ 99 ∷ []) ∷ (5, bitmap_bytes 31) ∷ [])
+
+-- the superblock of such a volume
+abbrev pub long_super : Superblock
+long_super = record made_super {
+  free_inodes = 13;
+  free_blocks = 83;
+  longfile = record { size = 1024; pointers = absent ∷ 12 ∷ replicate 14 absent; levels = 0 };
+}
+
+-- ---- 18 inodes: their last block has 256 bytes past the Inode tree's size. Halves of 6 blocks, and the top directory in block 12
+
+-- the blocks, with these bytes in the second half's last inode block
+abbrev pub eighteen_inodes : List ℕ → BlockMap
+eighteen_inodes last = blocks_of 96 (λ b.
+    if b == 6 then bitmap_bytes 31
+    else if b == 7 then filled 512 (directory_bytes 12)
+    else if b == 11 then filled 512 last
+    else if b == 12 then filled 512 (dots_bytes 1 1)
+    else replicate 512 0)
+
+-- the superblock of the second area
+abbrev pub eighteen_super : Superblock
+eighteen_super = record made_super {
+  num_inodes = 18;
+  free_inodes = 17;
+  free_blocks = 83;
+  inode = record { size = 2304; pointers = 7 ∷ 8 ∷ 9 ∷ 10 ∷ 11 ∷ replicate 11 absent; levels = 0 };
+  bitmap = one_pointer 12 6;
+}
+
+-- ---- 80 inodes: a pointer block leads to their 20 blocks. Halves of 22 blocks, and the top directory in block 44
+
+-- a block of pointers to so many blocks from one on
+abbrev pub pointers_from : ℕ → ℕ → List ℕ
+pointers_from first count = flat_map (λ p. digits Little 4 p) (range_with_len first count) ++ replicate (512 - 4 * count) 255
+
+-- the blocks, with these bytes in the first half's pointer block
+abbrev pub eighty_inodes : List ℕ → BlockMap
+eighty_inodes pointers = blocks_of 96 (λ b.
+    if b == 21 then filled 512 pointers
+    else if b == 22 then replicate 5 255 ++ 31 ∷ [] ++ replicate 6 0 ++ replicate 500 255
+    else if b == 23 then filled 512 (directory_bytes 44)
+    else if b == 43 then pointers_from 23 20
+    else if b == 44 then filled 512 (dots_bytes 1 1)
+    else replicate 512 0)
+
+-- the superblock of the second area
+abbrev pub eighty_super : Superblock
+eighty_super = record made_super {
+  num_inodes = 80;
+  free_inodes = 79;
+  free_blocks = 51;
+  inode = record { size = 10240; pointers = 43 ∷ replicate 15 absent; levels = 1 };
+  bitmap = one_pointer 12 22;
+}

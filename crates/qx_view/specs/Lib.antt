@@ -6,5 +6,7 @@ pub mod Images
 pub mod Reading
 pub mod Walk
 pub mod Sound
+pub mod Usage
 pub mod Examples
+pub mod SmallImage
 pub mod FalseSuperblocks

@@ -11,10 +11,11 @@ use Rattle.qx_records.specs.declared.inode.Inode.{Inode}
 use Rattle.qx_records.specs.declared.kind.Kind.{Kind}
 use Rattle.qx_records.specs.declared.kind.Kind.TheVariants as kinds
 use Rattle.qx_records.specs.InodeRecord.{kind_of}
-use Rattle.qx_records.specs.NameRecord.{RawRecord, Unused, Short, Long, Bad}
+use Rattle.qx_records.specs.NameRecord.{RawRecord, Short, Long, Bad}
+use Rattle.qx_records.specs.NameRecord as records
 use Rattle.qx_records.specs.NameSum.{sum_fits}
 use Rattle.qx_model.specs.declared.attr.Attr.{Attr}
-use Rattle.qx_model.specs.Tree.{Slot, Free, Row, Body, Directory, File, Link, Special, Entry, Tree, entry_of, slots_of, is_special_body, NamesAt, Names, Reached, IsDirectoryIn}
+use Rattle.qx_model.specs.Tree.{Slot, Unused, Row, Body, Directory, File, Link, Special, Entry, Tree, entry_of, slots_of, is_special_body, NamesAt, Names, Reached, IsDirectory}
 use Rattle.qx_super.specs.Superblock.{Superblock}
 use Rattle.qx_super.specs.Active.{active_super}
 use Rattle.qx_view.specs.Images.{Roots, main_roots, image_blocks, inode_places, inode_of, has_inode, raw_of, long_name}
@@ -32,7 +33,7 @@ long_slot inode number sum (Some name) = if sum_fits sum name then Some (Row ino
 
 -- what a record says: none where it is bad, or where its long name is missing or has another checksum
 abbrev pub slot_of : BlockMap → Root → RawRecord → Option Slot
-slot_of m longfile Unused = Some Free
+slot_of m longfile records.Unused = Some Unused
 slot_of m longfile (Short inode name) = Some (Row inode name None)
 slot_of m longfile (Long inode number sum) = long_slot inode number sum (long_name m longfile number)
 slot_of m longfile (Bad count) = None
@@ -83,14 +84,14 @@ pub record IsEntry (m : BlockMap) (r : Roots) (n : ℕ) (e : Entry) : Type 0 whe
 pub data Owner : Type 0 where
   OfInodes : Owner
   OfLongfile : Owner
-  OfBeside : ℕ → Owner
+  OfFurther : ℕ → Owner
   OfInode : ℕ → Owner
 
 -- the node of an owner; a special has none
 abbrev pub HasNode : BlockMap → Roots → Tree → Owner → Root → Type 0
 HasNode m r t OfInodes node = node ≡ r.inodes
 HasNode m r t OfLongfile node = node ≡ r.longfile
-HasNode m r t (OfBeside k) node = slice_get r.beside k ≡ Some node
+HasNode m r t (OfFurther k) node = slice_get r.further k ≡ Some node
 HasNode m r t (OfInode n) node = (e : Entry) × (entry_of t n ≡ Some e) × (is_special_body e.body ≡ false) × (node ≡ (inode_of m r.inodes n).root)
 
 -- a block stands at this position of the owner's node
@@ -126,17 +127,17 @@ pub record AreRows (d p : ℕ) (slots : List Slot) : Type 0 where
 pub record IsRooted (t : Tree) : Type 0 where
   pub reached : (n : ℕ) (e : Entry) → entry_of t n ≡ Some e → Reached t n
   pub closed : (n : ℕ) → Reached t n → (e : Entry) × (entry_of t n ≡ Some e)
-  pub top : IsDirectoryIn t 1 1
-  pub parent : (d p : ℕ) → IsDirectoryIn t d p → d ≢ 1 → Names t p d
+  pub top : IsDirectory t 1 1
+  pub parent : (d p : ℕ) → IsDirectory t d p → d ≢ 1 → Names t p d
   pub no_top : (d : ℕ) → Names t d 1 → ⊥
-  pub once : (d k c j n p : ℕ) → NamesAt t d k n → NamesAt t c j n → IsDirectoryIn t n p → (d ≡ c) × (k ≡ j)
-  pub rows : (d p : ℕ) → IsDirectoryIn t d p → AreRows d p (slots_of t d)
+  pub once : (d k c j n p : ℕ) → NamesAt t d k n → NamesAt t c j n → IsDirectory t n p → (d ≡ c) × (k ≡ j)
+  pub rows : (d p : ℕ) → IsDirectory t d p → AreRows d p (slots_of t d)
 
 -- t is the tree that begins at these roots
 pub record IsTreeOf (m : BlockMap) (r : Roots) (t : Tree) : Type 0 where
   pub inodes_fit : IsTrue (root_fits m r.inodes)
   pub longfile_fits : IsTrue (root_fits m r.longfile)
-  pub beside_fit : IsTrue (list_all (root_fits m) r.beside)
+  pub further_fit : IsTrue (list_all (root_fits m) r.further)
   pub rooted : IsRooted t
   pub places : length t.inodes ≡ inode_places r
   pub each : (n : ℕ) (e : Entry) → entry_of t n ≡ Some e → IsEntry m r n e

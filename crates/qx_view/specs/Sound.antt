@@ -1,5 +1,5 @@
 -- The layout that this project writes: the reasons for which an image is foreign, what must be counted right, and the checker's verdict.
-use Rattle.std.specs.Prelude.{◌≡◌, ◌⊎◌, ℕ, zero, suc, ◌+◌, ◌*◌, ◌^◌, ◌/◌, ◌%◌, Bool, true, false, not, ◌&&◌, ◌||◌, List, [], ◌∷◌, drop, length, map, flat_map, filter, filter_map, count_by, bytes_eq, Option, Some, None, Result, Ok, Err, nat_le, nat_lt, ◌==◌, if◌then◌else◌, slice_index, slice_index_or}
+use Rattle.std.specs.Prelude.{◌≡◌, ◌⊎◌, ℕ, zero, suc, ◌+◌, ◌*◌, ◌^◌, ◌/◌, ◌%◌, Bool, true, false, not, ◌&&◌, ◌||◌, List, [], ◌∷◌, drop, length, map, flat_map, filter, filter_map, count_by, bytes_eq, Option, Some, None, Result, Ok, Err, nat_le, nat_lt, ◌==◌, if◌then◌else◌, slice_get, slice_index, slice_index_or}
 use Rattle.std.specs.List.{list_any, list_all}
 use Rattle.std.specs.Int.{bit_at}
 use Rattle.qx_geom.specs.declared.area.Which.{Which}
@@ -86,15 +86,15 @@ is_system_tree m base n =
     list_all (λ k. list_all (λ j. has_system_words m base n k j) (each_below (level_count m.size n (suc k)) (λ j. j)))
     (each_below (levels_for m.size n) (λ k. k))
 
--- both trees of a half are so
-abbrev pub is_half : BlockMap → Geometry → Which → Bool
-is_half m g which =
+-- both trees of an area's half are so
+abbrev pub has_system_trees : BlockMap → Geometry → Which → Bool
+has_system_trees m g which =
     is_system_tree m (tree_base g which true) (tree_leaves g true) && is_system_tree m (tree_base g which false) (tree_leaves g false)
 
--- the two root nodes are those of the active area's half, and both halves are as they must be
-abbrev pub are_halves : BlockMap → Superblock → Geometry → Which → Bool
-are_halves m s g which =
-    is_same_root s.bitmap (system_root_of g which true) && (is_same_root s.inode (system_root_of g which false) && (is_half m g First && is_half m g Second))
+-- the two root nodes are those of the active area's half, and the pointer blocks of both halves are as they must be
+abbrev pub is_laid_out : BlockMap → Superblock → Geometry → Which → Bool
+is_laid_out m s g which =
+    is_same_root s.bitmap (system_root_of g which true) && (is_same_root s.inode (system_root_of g which false) && (has_system_trees m g First && has_system_trees m g Second))
 
 -- ---- reason 3: the bitmap
 
@@ -195,16 +195,11 @@ numbers_named m r reached =
     flat_map (λ d. filter_map (λ k. long_number (raw_of m (inode_root m r d) k)) (each_below ((inode_root m r d).size / 32) (λ k. k)))
     (filter (is_directory_inode m r) reached)
 
--- the first of a list
-abbrev pub first_item : List ℕ → Option ℕ
-first_item [] = None
-first_item (x ∷ xs) = Some x
-
 -- the least present number that isn't named exactly once, or 0 for the size
 abbrev pub bad_long_name : BlockMap → Roots → List ℕ → Option ℕ
 bad_long_name m r reached =
     if not (r.longfile.size % m.size == 0) then Some 0
-    else first_item (filter (λ n. not (count_by (λ k. k == n) (numbers_named m r reached) == 1)) (present_of m r.longfile))
+    else slice_get (filter (λ n. not (count_by (λ k. k == n) (numbers_named m r reached) == 1)) (present_of m r.longfile)) 0
 
 -- ---- the first reason
 
@@ -224,23 +219,23 @@ first_some [] = None
 first_some (None ∷ os) = first_some os
 first_some (Some x ∷ os) = Some x
 
--- the first of the reasons from 2 on
-abbrev pub reason_in : BlockMap → Superblock → Geometry → Which → Roots → List ℕ → Option Reason
-reason_in m s g which r reached =
-    let blocks = outer_blocks m r in
-    first_some (
-    reason_at 2 (if are_halves m s g which && list_all (λ b. nat_le (2 * g.half) b) blocks then None else Some 0)
+-- each of the reasons from 2 on, if it applies; `blocks` are those outside the halves, `reached` the reached inodes
+abbrev pub reasons_in : BlockMap → Superblock → Geometry → Which → Roots → List ℕ → List ℕ → List (Option Reason)
+reasons_in m s g which r blocks reached =
+    reason_at 2 (if is_laid_out m s g which && list_all (λ b. nat_le (2 * g.half) b) blocks then None else Some 0)
     ∷ reason_at 3 (first_below (bit_differs m s.bitmap g blocks) (g.bitmap_leaves * m.size * 8))
     ∷ reason_at 4 (first_below (fails_nodes m r reached) (inode_places r + 1))
     ∷ reason_at 5 (first_below (fails_dots m r reached) (inode_places r + 1))
     ∷ reason_at 6 (first_below (fails_inodes m r reached) (inode_places r + 1))
     ∷ reason_at 7 (bad_long_name m r reached)
-    ∷ [])
+    ∷ []
 
 -- the first reason, of a superblock with this geometry
 abbrev pub reason_with : BlockMap → Superblock → Which → Option Geometry → Option Reason
 reason_with m s which None = reason_at 1 (Some 0)
-reason_with m s which (Some g) = reason_in m s g which (main_roots s) (walked_inodes m (main_roots s))
+reason_with m s which (Some g) =
+    let r = main_roots s in
+    first_some (reasons_in m s g which r (outer_blocks m r) (walked_inodes m r))
 
 -- the first reason for which the image of this area's superblock is foreign, on a device of this length
 abbrev pub reason_of : BlockMap → Superblock → Which → ℕ → Option Reason
@@ -288,21 +283,21 @@ pub data Verdict : Type 0 where
   Disagree : Verdict
   Damaged : Finding → Verdict
   Foreign : Reason → Verdict
-  Clean : Verdict
+  Clean : (area : Which) (superblock : Superblock) → Verdict
 
--- the first of a finding, a reason and a last finding
-abbrev pub verdict_by : Option Finding → Option Reason → Option Finding → Verdict
-verdict_by (Some f) reason last = Damaged f
-verdict_by None (Some reason) last = Foreign reason
-verdict_by None None (Some f) = Damaged f
-verdict_by None None None = Clean
+-- the first of a finding, a reason and a last finding, or else clean with this area and its superblock
+abbrev pub verdict_by : Which → Superblock → Option Finding → Option Reason → Option Finding → Verdict
+verdict_by which s (Some f) reason last = Damaged f
+verdict_by which s None (Some reason) last = Foreign reason
+verdict_by which s None None (Some f) = Damaged f
+verdict_by which s None None None = Clean which s
 
 -- the verdict on an image with this area's superblock
 abbrev pub verdict_with : List ℕ → Which → Option Superblock → Verdict
 verdict_with img which None = NoVolume
 verdict_with img which (Some s) =
     let m = image_blocks img s in
-    verdict_by (finding_of m (main_roots s)) (reason_of m s which (length img)) (last_finding m s (length img))
+    verdict_by which s (finding_of m (main_roots s)) (reason_of m s which (length img)) (last_finding m s (length img))
 
 -- the verdict on an image with this active area
 abbrev pub verdict_at : List ℕ → Pick → Verdict

@@ -10,9 +10,10 @@ use Rattle.qx_nodes.specs.Content.{levels_fit, root_fits}
 use Rattle.qx_records.specs.declared.kind.Kind.{Kind}
 use Rattle.qx_records.specs.declared.kind.Kind.TheVariants as kinds
 use Rattle.qx_records.specs.InodeRecord.{kind_of}
-use Rattle.qx_records.specs.NameRecord.{RawRecord, Unused, Short, Long, Bad}
+use Rattle.qx_records.specs.NameRecord.{RawRecord, Short, Long, Bad}
+use Rattle.qx_records.specs.NameRecord as records
 use Rattle.qx_records.specs.NameSum.{sum_fits}
-use Rattle.qx_model.specs.Tree.{Slot, Free, Row, is_dots, named_by}
+use Rattle.qx_model.specs.Tree.{Slot, Unused, Row, is_dots, named_by}
 use Rattle.qx_view.specs.Images.{Roots, inode_places, inode_of, has_inode, raw_of, record_block, long_name}
 use Rattle.qx_view.specs.Reading.{slot_of, is_plain}
 
@@ -39,14 +40,14 @@ abbrev pub is_directory_inode : BlockMap → Roots → ℕ → Bool
 is_directory_inode m r n = is_directory_kind (kind_of (inode_mode m r n))
 
 -- the inode that a record names; none where it is unused, bad, `.` or `..`
-abbrev pub target_of : BlockMap → Root → RawRecord → Option ℕ
-target_of m longfile raw = option_and_then named_by (slot_of m longfile raw)
+abbrev pub named_inode : BlockMap → Root → RawRecord → Option ℕ
+named_inode m longfile raw = option_and_then named_by (slot_of m longfile raw)
 
 -- the inodes that the records of inode n name, if it is a directory
-abbrev pub targets_of : BlockMap → Roots → ℕ → List ℕ
-targets_of m r n =
+abbrev pub named_inodes : BlockMap → Roots → ℕ → List ℕ
+named_inodes m r n =
     if is_directory_inode m r n
-    then filter_map (λ k. target_of m r.longfile (raw_of m (inode_root m r n) k)) (each_below ((inode_root m r n).size / 32) (λ k. k))
+    then filter_map (λ k. named_inode m r.longfile (raw_of m (inode_root m r n) k)) (each_below ((inode_root m r n).size / 32) (λ k. k))
     else []
 
 -- those of a list that weren't listed, each once
@@ -71,7 +72,7 @@ taken_from m r zero queue listed = []
 taken_from m r (suc fuel) [] listed = []
 taken_from m r (suc fuel) (e ∷ queue) listed =
     record { inode = e.0; parent = e.1; listed = listed }
-    ∷ taken_from m r fuel (queue ++ map (λ n. (n, e.0)) (new_ones (targets_of m r e.0) listed)) (listed_after (targets_of m r e.0) listed)
+    ∷ taken_from m r fuel (queue ++ map (λ n. (n, e.0)) (new_ones (named_inodes m r e.0) listed)) (listed_after (named_inodes m r e.0) listed)
 
 -- what is taken from a list that begins with inode 1, which is its own parent
 abbrev pub taken_of : BlockMap → Roots → List Taken
@@ -115,7 +116,7 @@ row_tests m r at names listed n name =
 
 -- the tests of a record
 abbrev pub record_tests : BlockMap → Roots → Place → List (List ℕ) → List ℕ → RawRecord → List Test
-record_tests m r at names listed Unused = []
+record_tests m r at names listed records.Unused = []
 record_tests m r at names listed (Bad count) = Tested 7 at.inode at.block false ∷ []
 record_tests m r at names listed (Short n name) = Tested 7 at.inode at.block true ∷ row_tests m r at names listed n name
 record_tests m r at names listed (Long n number sum) =
@@ -128,7 +129,7 @@ record_tests m r at names listed (Long n number sum) =
 -- the name of a row
 abbrev pub slot_name : Option Slot → List (List ℕ)
 slot_name None = []
-slot_name (Some Free) = []
+slot_name (Some Unused) = []
 slot_name (Some (Row n name long)) = name ∷ []
 
 -- the tests of these records of directory d, one after another
@@ -137,7 +138,7 @@ records_tests m r d p node names listed [] = []
 records_tests m r d p node names listed (k ∷ ks) =
     let raw = raw_of m node k in
     record_tests m r (record { inode = d; parent = p; block = record_block m node k }) names listed raw
-    ++ records_tests m r d p node (slot_name (slot_of m r.longfile raw) ++ names) (option_to_list (target_of m r.longfile raw) ++ listed) ks
+    ++ records_tests m r d p node (slot_name (slot_of m r.longfile raw) ++ names) (option_to_list (named_inode m r.longfile raw) ++ listed) ks
 
 -- the tests of an inode's node, of a link's size and of a directory's records
 abbrev pub kind_tests : BlockMap → Roots → Taken → Root → Option Kind → List Test
@@ -164,7 +165,7 @@ top_tests m r = Tested 4 1 absent (has_inode r.inodes 1) ∷ Tested 5 1 absent (
 -- all the tests of the tree that begins at these roots, in the order of the walk
 abbrev pub tests_of : BlockMap → Roots → List Test
 tests_of m r =
-    root_tests m r.inodes ++ root_tests m r.longfile ++ flat_map (root_tests m) r.beside
+    root_tests m r.inodes ++ root_tests m r.longfile ++ flat_map (root_tests m) r.further
     ++ top_tests m r ++ flat_map (inode_tests m r) (taken_of m r)
 
 -- ---- the first that fails

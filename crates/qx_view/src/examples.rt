@@ -2,11 +2,13 @@
 ghost use Rattle.std.specs.Prelude.{◌≡◌, ℕ, List, ◌∷◌, [], ◌++◌, drop, replicate, take, Some, None};
 ghost use Rattle.qx_geom.specs.declared.area.Which.TheVariants as areas;
 ghost use Rattle.qx_fields.specs.declared.order.Order.TheVariants as orders;
+ghost use Rattle.qx_geom.specs.Layout.{numbers_of};
 ghost use Rattle.qx_nodes.specs.Leaves.{Block, Damage, Hole, leaf_of};
 ghost use Rattle.qx_view.specs.Images.{main_roots};
 ghost use Rattle.qx_view.specs.Reading.{IsTreeOf};
 ghost use Rattle.qx_view.specs.Walk.{finding_of, walked_inodes};
 ghost use Rattle.qx_view.specs.Sound.{last_finding, reason_of};
+ghost use Rattle.qx_view.specs.Usage.{foreign_usage, sound_usage};
 ghost use Rattle.qx_view.specs.Examples.{bitmap_bytes, chain, chained, directory_bytes, dots_bytes, empty_tree, filled, inode_bytes_with, long_roots, made_blocks, made_but, made_super, one_file, one_pointer, row_bytes, small_roots, two_directories, vast_directory, with_long_row, with_rows, with_second, with_top};
 
 /// Two directories, whole and damaged: the walk's order and its finding.
@@ -123,4 +125,13 @@ pub fn a_new_volume_is_clean()
     ensures other_half { reason_of made_blocks made_super areas.First 65536 ≡ Some (record { reason = 2; at = 0 }) }
     ensures other_length { reason_of made_blocks made_super areas.Second 69632 ≡ Some (record { reason = 1; at = 0 }) }
     ensures counted { last_finding made_blocks made_super 65536 ≡ None }
+{}
+
+/// The usage of a new volume: as a sound one, and as if it were foreign and mounted for reading, where the halves' leaves that the walk comes to
+/// and the top directory's block aren't free. Where more inodes are reached than there are, none is free.
+pub fn the_usage_of_a_new_volume()
+    ensures sound { sound_usage (numbers_of 65536 512 16) made_super ≡ record { user = 86; free = 85; inodes = 16; free_inodes = 15 } }
+    ensures foreign { foreign_usage made_blocks (main_roots made_super) made_super ≡ record { user = 96; free = 90; inodes = 16; free_inodes = 15 } }
+    ensures none_left { (foreign_usage made_blocks (main_roots made_super) (record made_super { num_inodes = 0 })).free_inodes ≡ 0 }
+    ensures unmet { (foreign_usage made_blocks (record (main_roots made_super) { further = [] }) made_super).free ≡ 91 }
 {}

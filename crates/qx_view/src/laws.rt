@@ -1,16 +1,22 @@
 //! Laws of what an image means.
-ghost use Rattle.std.specs.Prelude.{◌≡◌, ◌⊎◌, ◌↔◌, ◌+◌, ◌*◌, ◌<◌, ◌≤◌, ℕ, Bool, List, length, Some, None};
+ghost use Rattle.std.specs.Prelude.{◌≡◌, ◌⊎◌, ◌↔◌, ◌+◌, ◌*◌, ◌<◌, ◌≤◌, ℕ, Bool, ◌/◌, ◌%◌, IsTrue, List, [], Contains, filter_map, length, Some, None};
 ghost use Rattle.qx_geom.specs.declared.area.Which.{Which};
 ghost use Rattle.qx_geom.specs.declared.geometry.Geometry.{Geometry};
 ghost use Rattle.qx_geom.specs.Layout.{IsPointerBlock, first_block};
+ghost use Rattle.qx_geom.specs.Lists.{Distinct, each_below};
+ghost use Rattle.qx_nodes.specs.BlockMap.{BlockMap};
+ghost use Rattle.qx_nodes.specs.Content.{HasSize, levels_fit};
+ghost use Rattle.qx_geom.specs.declared.root.Root.{Root};
+ghost use Rattle.qx_records.specs.NameRecord.{Unused};
 ghost use Rattle.qx_model.specs.Tree.{Tree};
 ghost use Rattle.qx_super.specs.declared.choice.Pick.TheVariants as picks;
 ghost use Rattle.qx_super.specs.Active.{active_area, active_super};
 ghost use Rattle.qx_super.specs.Superblock.{Superblock};
-ghost use Rattle.qx_view.specs.Images.{block_bytes, image_blocks, main_roots};
-ghost use Rattle.qx_view.specs.Reading.{IsHeld, IsTree};
-ghost use Rattle.qx_view.specs.Walk.{Finding, finding_of};
-ghost use Rattle.qx_view.specs.Sound.{Clean, Damaged, Foreign, IsDamaged, IsForeign, IsSound, Reason, verdict_of, written_geometry};
+ghost use Rattle.qx_view.specs.Images.{IsInHole, Roots, block_bytes, image_blocks, main_roots, present_records, raw_of};
+ghost use Rattle.qx_view.specs.Reading.{IsHeld, IsTree, IsTreeOf};
+ghost use Rattle.qx_view.specs.Usage.{met_blocks};
+ghost use Rattle.qx_view.specs.Walk.{Finding, Place, finding_of, named_inode, record_tests, records_tests};
+ghost use Rattle.qx_view.specs.Sound.{Clean, Damaged, Foreign, IsDamaged, IsForeign, IsSound, Reason, long_number, verdict_of, written_geometry};
 
 /// An image has one tree at most.
 pub fn an_image_has_one_tree()
@@ -37,10 +43,45 @@ pub fn a_tree_means_no_finding()
         → finding_of (image_blocks img s) (main_roots s) ≡ None }
 {}
 
-/// An image is clean exactly where it is sound.
+/// A record of a directory in a leaf that isn't present is unused: it has no test, and names no inode and no long name.
+pub fn records_in_holes_say_nothing()
+    ensures unused { (m : BlockMap) (node : Root) (k : ℕ) → HasSize m → IsTrue (levels_fit m node) → IsInHole m node k
+        → raw_of m node k ≡ Unused }
+    ensures tests { (m : BlockMap) (r : Roots) (at : Place) (names : List (List ℕ)) (listed : List ℕ) (node : Root) (k : ℕ)
+        → HasSize m → IsTrue (levels_fit m node) → IsInHole m node k → record_tests m r at names listed (raw_of m node k) ≡ [] }
+    ensures inode { (m : BlockMap) (longfile node : Root) (k : ℕ) → HasSize m → IsTrue (levels_fit m node) → IsInHole m node k
+        → named_inode m longfile (raw_of m node k) ≡ None }
+    ensures number { (m : BlockMap) (node : Root) (k : ℕ) → HasSize m → IsTrue (levels_fit m node) → IsInHole m node k
+        → long_number (raw_of m node k) ≡ None }
+{}
+
+/// So the records of present leaves alone, in their order, give all the tests of a directory, all inodes and all long names that it names,
+/// where a block has whole records.
+pub fn the_records_of_present_leaves_say_all()
+    ensures tests { (m : BlockMap) (r : Roots) (d p : ℕ) (node : Root) (names : List (List ℕ)) (listed : List ℕ)
+        → HasSize m → m.size % 32 ≡ 0 → IsTrue (levels_fit m node)
+        → records_tests m r d p node names listed (each_below (node.size / 32) (λ k. k)) ≡ records_tests m r d p node names listed (present_records m node) }
+    ensures inodes { (m : BlockMap) (longfile node : Root) → HasSize m → m.size % 32 ≡ 0 → IsTrue (levels_fit m node)
+        → filter_map (λ k. named_inode m longfile (raw_of m node k)) (each_below (node.size / 32) (λ k. k))
+        ≡ filter_map (λ k. named_inode m longfile (raw_of m node k)) (present_records m node) }
+    ensures numbers { (m : BlockMap) (node : Root) → HasSize m → m.size % 32 ≡ 0 → IsTrue (levels_fit m node)
+        → filter_map (λ k. long_number (raw_of m node k)) (each_below (node.size / 32) (λ k. k))
+        ≡ filter_map (λ k. long_number (raw_of m node k)) (present_records m node) }
+{}
+
+/// The walk of roots that have a tree comes to each block that the tree holds, to each once, and to no other.
+pub fn the_walk_meets_the_held_blocks()
+    ensures held { (m : BlockMap) (r : Roots) (t : Tree) (b : ℕ) → HasSize m → IsTreeOf m r t
+        → Contains (met_blocks m r) b ↔ IsHeld m r t b }
+    ensures once { (m : BlockMap) (r : Roots) (t : Tree) → HasSize m → IsTreeOf m r t → Distinct (met_blocks m r) }
+{}
+
+/// An image is clean exactly where it is sound, and then with its active area and that area's superblock.
 pub fn clean_images_are_the_sound_ones()
-    ensures clean { (img : List ℕ) → verdict_of img ≡ Clean → (t : Tree) × IsSound img t }
-    ensures sound { (img : List ℕ) (t : Tree) → IsSound img t → verdict_of img ≡ Clean }
+    ensures clean { (img : List ℕ) (area : Which) (s : Superblock) → verdict_of img ≡ Clean area s
+        → (active_area img ≡ picks.Active area) × (active_super img ≡ Some s) × ((t : Tree) × IsSound img t) }
+    ensures sound { (img : List ℕ) (t : Tree) (area : Which) (s : Superblock) → IsSound img t
+        → active_area img ≡ picks.Active area → active_super img ≡ Some s → verdict_of img ≡ Clean area s }
 {}
 
 /// An image is foreign for a reason exactly where it has a tree and the reason is the first that applies.

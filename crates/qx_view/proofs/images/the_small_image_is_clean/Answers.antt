@@ -1,0 +1,21 @@
+use Rattle.qx_geom.specs.declared.area.Which.TheVariants.{First, Second}
+use Rattle.qx_view.proofs.SmallImages.{first_changed, first_changed-sound, second_changed, second_changed-sound, whole, whole-sound}
+use Rattle.qx_view.proofs.Verdicts.{sound_clean}
+use Rattle.qx_view.specs.Examples.{empty_tree, made_super}
+use Rattle.qx_view.specs.SmallImage.{changed, first_bytes, image_with, made_first, second_bytes, small_image}
+use Rattle.qx_view.proofs.images.the_small_image_is_clean.Goals as goal
+
+pub returns-clause-length : goal.returns-clause-length
+returns-clause-length c = whole.long
+
+pub returns-clause-active : goal.returns-clause-active
+returns-clause-active c = whole.active
+
+pub returns-clause-superblock : goal.returns-clause-superblock
+returns-clause-superblock c = whole.names
+
+pub returns-clause-sound : goal.returns-clause-sound
+returns-clause-sound c = whole-sound
+
+pub returns-clause-clean : goal.returns-clause-clean
+returns-clause-clean c = sound_clean small_image empty_tree Second made_super whole-sound whole.active whole.names

@@ -1,0 +1,31 @@
+use Rattle.std.proofs.Common.{refl}
+use Rattle.qx_fields.specs.Number.{field, fields}
+use Rattle.qx_geom.specs.Layout.{levels_for, tree_blocks, pointer_blocks, geometry_of, system_root_of}
+use Rattle.qx_records.specs.InodeRecord.{inode_in, kind_of}
+use Rattle.qx_records.specs.NameRecord.{raw_in, long_name_in}
+use Rattle.qx_records.specs.NameSum.{name_sum_of}
+use Rattle.qx_view.proofs.volumes.a_volume_with_pointer_blocks.Goals as goal
+
+pub returns-clause-whole : goal.returns-clause-whole
+unfolding field fields inode_in kind_of raw_in long_name_in name_sum_of levels_for tree_blocks pointer_blocks geometry_of system_root_of
+returns-clause-whole c = refl
+
+pub returns-clause-ours : goal.returns-clause-ours
+unfolding field fields inode_in kind_of raw_in long_name_in name_sum_of levels_for tree_blocks pointer_blocks geometry_of system_root_of
+returns-clause-ours c = refl
+
+pub returns-clause-counted : goal.returns-clause-counted
+unfolding field fields inode_in kind_of raw_in long_name_in name_sum_of levels_for tree_blocks pointer_blocks geometry_of system_root_of
+returns-clause-counted c = refl
+
+pub returns-clause-other_word : goal.returns-clause-other_word
+unfolding field fields inode_in kind_of raw_in long_name_in name_sum_of levels_for tree_blocks pointer_blocks geometry_of system_root_of
+returns-clause-other_word c = refl
+
+pub returns-clause-word_more : goal.returns-clause-word_more
+unfolding field fields inode_in kind_of raw_in long_name_in name_sum_of levels_for tree_blocks pointer_blocks geometry_of system_root_of
+returns-clause-word_more c = refl
+
+pub returns-clause-empty : goal.returns-clause-empty
+unfolding field fields inode_in kind_of raw_in long_name_in name_sum_of levels_for tree_blocks pointer_blocks geometry_of system_root_of
+returns-clause-empty c = refl

@@ -1,0 +1,57 @@
+-- The small volume byte by byte: what the maker writes on a device of 65536 bytes.
+use Rattle.std.specs.Prelude.{ℕ, List, ◌∷◌, ◌++◌, drop, flat_map, replicate, take}
+use Rattle.qx_fields.specs.Number.{digits}
+use Rattle.qx_fields.specs.declared.order.Order.TheVariants.{Little}
+use Rattle.qx_geom.specs.Lists.{parts_below}
+use Rattle.qx_geom.specs.Pointer.{absent}
+use Rattle.qx_geom.specs.declared.root.Root.{Root}
+use Rattle.qx_super.specs.Superblock.{Superblock}
+use Rattle.qx_view.specs.Examples.{made_block, made_super, one_pointer}
+
+-- a root node
+abbrev pub root_bytes : Root → List ℕ
+root_bytes node = digits Little 8 node.size ++ flat_map (λ p. digits Little 4 p) node.pointers ++ node.levels ∷ replicate 7 0
+
+-- a superblock with this checksum
+abbrev pub super_bytes : ℕ → Superblock → List ℕ
+super_bytes sum s =
+    digits Little 4 0x68191122 ++ digits Little 4 sum ++ digits Little 8 s.serial ++ digits Little 4 s.ctime ++ digits Little 4 s.atime ++ replicate 4 0
+    ++ digits Little 2 s.version1 ++ replicate 2 0 ++ s.volume_id ++ digits Little 4 s.blocksize ++ digits Little 4 s.num_inodes ++ digits Little 4 s.free_inodes
+    ++ digits Little 4 s.num_blocks ++ digits Little 4 s.free_blocks ++ replicate 4 0 ++ root_bytes s.inode ++ root_bytes s.bitmap ++ root_bytes s.longfile
+    ++ root_bytes s.fourth ++ replicate 120 0
+
+-- the superblock of the first area: an earlier serial, and the trees of the first half
+abbrev pub made_first : Superblock
+made_first = record made_super {
+  serial = 1;
+  inode = record { size = 2048; pointers = 1 ∷ 2 ∷ 3 ∷ 4 ∷ replicate 12 absent; levels = 0 };
+  bitmap = one_pointer 12 0;
+}
+
+-- the first area's superblock, with the checksum that an independent maker wrote
+unfoldable pub first_bytes : List ℕ
+first_bytes = super_bytes 0x7442D465 made_first
+
+-- the second area's, with a checksum from a program of a few lines, apart from this one
+unfoldable pub second_bytes : List ℕ
+second_bytes = super_bytes 0xDAE951C0 made_super
+
+-- bytes 0
+unfoldable pub zeros : ℕ → List ℕ
+zeros n = replicate n 0
+
+-- the blocks, end to end
+unfoldable pub made_bytes : List ℕ
+made_bytes = parts_below 96 made_block
+
+-- the image with these superblocks in its areas
+unfoldable pub image_with : List ℕ → List ℕ → List ℕ
+image_with first second = zeros 0x2000 ++ (first ++ (zeros 0xE00 ++ (made_bytes ++ (second ++ zeros 0xE00))))
+
+-- a superblock whose byte 16 isn't as its checksum says
+abbrev pub changed : List ℕ → List ℕ
+changed bytes = take 16 bytes ++ 0 ∷ drop 17 bytes
+
+-- what the maker writes
+abbrev pub small_image : List ℕ
+small_image = image_with first_bytes second_bytes
