@@ -1,5 +1,5 @@
 -- Words on lists and on the numbers below a bound.
-use Rattle.std.specs.Prelude.{ℕ, zero, suc, ◌+◌, Bool, true, not, ◌&&◌, List, [], ◌∷◌, ◌++◌, map, Option, Some, None, nat_eq, if◌then◌else◌, Contains, ◌<◌}
+use Rattle.std.specs.Prelude.{ℕ, zero, suc, Bool, true, not, ◌&&◌, List, [], ◌∷◌, ◌++◌, map, Option, nat_eq, Contains, ◌<◌}
 use Rattle.std.specs.List.{find, list_any, range_with_len}
 
 -- f at each number below n, in order

@@ -22,7 +22,8 @@ use Rattle.qx_super.specs.Superblock.{fits_device, second_place_of, superblock_o
 use Rattle.qx_super.specs.Written.{FitsSuper, superblock_written}
 use Rattle.qx_super.specs.Active.{is_same_order, is_same_volume}
 use Rattle.qx_super.proofs.WrittenSuperblocks.{length_super_bytes, superblock_of-super_bytes}
-use Rattle.qx_make.specs.Superblocks.{empty_root, made_super, made_super_bytes}
+use Rattle.qx_make.specs.Superblocks.{made_super, made_super_bytes}
+use Rattle.qx_make.specs.NewVolume.{empty_root}
 
 -- a node of nothing fits
 FitsRoot-empty : FitsRoot empty_root

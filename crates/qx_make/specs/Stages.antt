@@ -152,7 +152,8 @@ old_stages old = zero_stages old (old_places old) ++ rest_stage (zeroed old (old
 
 -- all stages, over a device with these bytes that gets this length
 abbrev pub make_stages : Geometry → Order → ℕ → ℕ → List ℕ → List Stage
-make_stages g order moment size old = old_stages old ++ new_stages g order moment (resized (zeroed old (old_places old)) size)
+make_stages g order moment size old =
+    zero_stages old (old_places old) ++ rest_stage (zeroed old (old_places old)) ∷ new_stages g order moment (resized (zeroed old (old_places old)) size)
 
 -- the bytes at the end
 abbrev pub made_bytes : Geometry → Order → ℕ → ℕ → List ℕ → List ℕ

@@ -1,6 +1,6 @@
 -- The records of a directory that lie in no present leaf say nothing.
 use Rattle.std.proofs.Common.{◌≡◌, ℕ, zero, suc, ◌+◌, ◌-◌, ◌*◌, ◌/◌, ◌%◌, ◌<◌, ◌≤◌, inl, inr, List, [], ◌∷◌, ◌++◌, refl, ap, sym, ◌∙◌, subst, arith}
-use Rattle.std.specs.Prelude.{Bool, true, false, ◌||◌, if◌then◌else◌, IsTrue, Option, None, option_to_list, Contains, filter, filter_map, flat_map, replicate, slice_index, slice_range, take}
+use Rattle.std.specs.Prelude.{Bool, true, false, ◌||◌, if◌then◌else◌, IsTrue, Option, None, option_to_list, Contains, filter, filter_map, replicate, slice_index, slice_range, take}
 use Rattle.std.specs.List.{cons_option, range_with_len}
 use Rattle.std.proofs.Math.Nat.{add-mul, div-div-eq-div-mul, mod-lt, mul-div_cancel, one-mul}
 use Rattle.std.proofs.lemmas.Bool.{cases_lt, eq-eqb}
@@ -10,19 +10,20 @@ use Rattle.qx_fields.specs.Number.{field, number}
 use Rattle.qx_fields.specs.declared.order.Order.TheVariants.{Big, Little}
 use Rattle.qx_fields.specs.declared.order.Order.{Order}
 use Rattle.qx_geom.proofs.ImagesAndFilters.{Contains-in, in_Contains}
-use Rattle.qx_geom.proofs.Members.{Contains-cases, Contains-cons, Contains-head}
+use Rattle.qx_geom.proofs.Members.{Contains-cons, Contains-head}
 use Rattle.qx_geom.proofs.PresentLeaves.{filter_ascends}
 use Rattle.qx_geom.proofs.Truths.{true_or_false}
 use Rattle.qx_geom.specs.Lists.{IsAscending, each_below, is_in}
 use Rattle.qx_geom.specs.declared.root.Root.{Root}
 use Rattle.qx_nodes.proofs.AbsentLeaves.{absent_bytes}
 use Rattle.qx_nodes.proofs.ContentLocality.{lies_below, reaches_of}
-use Rattle.qx_nodes.proofs.MetLeaves.{ascending-append, present_ascends}
+use Rattle.qx_nodes.proofs.MetLeaves.{present_ascends}
 use Rattle.qx_nodes.specs.BlockMap.{BlockMap}
 use Rattle.qx_nodes.specs.Content.{HasSize, levels_fit}
 use Rattle.qx_nodes.specs.Visits.{present_of}
 use Rattle.qx_records.specs.NameRecord.{RawRecord, Unused, raw_in}
 use Rattle.qx_view.proofs.AlikeLists.{below_members, filter_members, flat_map_members, members_filter, members_flat_map}
+use Rattle.qx_view.proofs.AscendingRanges.{ascending_same, flat_ascends, in_range, range_ascends, range_has}
 use Rattle.qx_view.proofs.TreeLocality.{record_below}
 use Rattle.qx_view.specs.Images.{IsInHole, Roots, leaf_records, present_records, raw_of, record_block}
 use Rattle.qx_view.specs.Reading.{slot_of}
@@ -72,53 +73,6 @@ hole_unused m node k size fit hole =
     ap (λ bs. raw_in m.order (slice_range bs (k * 32 % m.size) (k * 32 % m.size + 32)))
     (absent_bytes m node (k * 32 / m.size) (lies_below m node (k * 32) (reaches_of m node size fit) (record_below k node.size hole.below)) hole.absent)
     ∙ ap (raw_in m.order) z.1 ∙ raw_zeros m.order z.0
-
--- ---- ascending lists
-
--- a member of a range lies in it
-in_range : (a n k : ℕ) → Contains (range_with_len a n) k → (a ≤ k) × (k < a + n)
-in_range a zero k c = absurd (omega (arith, c.1))
-in_range a (suc n) k c = elim (Contains-cases a k (range_with_len (a + 1) n) c) [
-  | inl here ↦ (omega arith, omega arith)
-  | inr there ↦ let r : (a + 1 ≤ k) × (k < a + 1 + n) = in_range (a + 1) n k there in (omega arith, omega arith)
-]
-
--- and what lies in it is a member
-range_has : (a n k : ℕ) → a ≤ k → k < a + n → Contains (range_with_len a n) k
-range_has a zero k low high = absurd (omega arith)
-range_has a (suc n) k low high = elim (cases_lt a k) [
-  | inl above ↦ Contains-cons a k (range_with_len (a + 1) n) (range_has (a + 1) n k (omega arith) (omega arith))
-  | inr same ↦ let here : a ≡ k = omega arith in subst (λ z. Contains (a ∷ range_with_len (a + 1) n) z) here (Contains-head a (range_with_len (a + 1) n))
-]
-
--- a range ascends
-range_ascends : (a n : ℕ) → IsAscending (range_with_len a n)
-range_ascends a zero = tt
-range_ascends a (suc n) = (λ y c. let r : (a + 1 ≤ y) × (y < a + 1 + n) = in_range (a + 1) n y c in omega (arith, r.0), range_ascends (a + 1) n)
-
--- parts end to end ascend where each does, and those of a greater number lie above those of a lesser one
-flat_ascends : (f : ℕ → List ℕ) (xs : List ℕ) → IsAscending xs → ((i : ℕ) → IsAscending (f i)) → ((i j x y : ℕ) → i < j → Contains (f i) x → Contains (f j) y → x < y) → IsAscending (flat_map f xs)
-flat_ascends f [] a each above = tt
-flat_ascends f (i ∷ xs) a each above =
-    ascending-append (f i) (flat_map f xs) (each i) (flat_ascends f xs a.1 each above)
-    (λ x y c d. let at = flat_map_members f xs y d in above i at.0 x y (a.0 at.0 at.1) c at.2)
-
--- ascending lists with the same members are one
-ascending_same : (xs ys : List ℕ) → IsAscending xs → IsAscending ys → ((x : ℕ) → Contains xs x → Contains ys x) → ((x : ℕ) → Contains ys x → Contains xs x) → xs ≡ ys
-ascending_same [] [] a b to from = refl
-ascending_same [] (y ∷ ys) a b to from = absurd (let c : Contains [] y = from y (Contains-head y ys) in omega (arith, c.1))
-ascending_same (x ∷ xs) [] a b to from = absurd (let c : Contains [] x = to x (Contains-head x xs) in omega (arith, c.1))
-ascending_same (x ∷ xs) (y ∷ ys) a b to from =
-    let low : y ≤ x = least y x ys b.0 (to x (Contains-head x xs)) in
-    let high : x ≤ y = least x y xs a.0 (from y (Contains-head y ys)) in
-    let same : x ≡ y = omega arith in
-    λ i. same i ∷ ascending_same xs ys a.1 b.1 (λ z c. rest y z ys (to z (Contains-cons x z xs c)) (let h : x < z = a.0 z c in omega arith)) (λ z c. rest x z xs (from z (Contains-cons y z ys c)) (let h : y < z = b.0 z c in omega arith)) i
-  where
-    least : (h z : ℕ) (zs : List ℕ) → ((w : ℕ) → Contains zs w → h < w) → Contains (h ∷ zs) z → h ≤ z
-    least h z zs above c = elim (Contains-cases h z zs c) [ inl is ↦ omega arith | inr there ↦ let lt : h < z = above z there in omega arith ]
-
-    rest : (h z : ℕ) (zs : List ℕ) → Contains (h ∷ zs) z → h < z → Contains zs z
-    rest h z zs c lt = elim (Contains-cases h z zs c) [ inl is ↦ absurd (omega arith) | inr there ↦ there ]
 
 -- ---- the records of present leaves
 

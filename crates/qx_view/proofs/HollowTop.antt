@@ -1,8 +1,7 @@
 -- A volume whose top directory has no present leaf: the walk comes to inode 1 alone, and no record is tested.
-use Rattle.std.proofs.Common.{◌≡◌, ℕ, zero, suc, ◌+◌, ◌*◌, ◌/◌, ◌%◌, List, [], ◌∷◌, ◌++◌, refl, ap, ◌∙◌, sym, arith}
-use Rattle.std.specs.Prelude.{IsTrue, Option, None, Some, filter_map, flat_map, map, true, if◌then◌else◌}
+use Rattle.std.proofs.Common.{◌≡◌, ℕ, zero, suc, ◌+◌, ◌/◌, ◌%◌, List, [], ◌∷◌, ◌++◌, refl, ap, ◌∙◌, arith}
+use Rattle.std.specs.Prelude.{IsTrue, Some, filter_map, flat_map, map, if◌then◌else◌}
 use Rattle.qx_geom.specs.Lists.{each_below}
-use Rattle.qx_geom.specs.declared.root.Root.{Root}
 use Rattle.qx_nodes.specs.BlockMap.{BlockMap}
 use Rattle.qx_nodes.specs.Content.{HasSize, levels_fit}
 use Rattle.qx_nodes.specs.Visits.{present_of}
@@ -10,7 +9,7 @@ use Rattle.qx_records.specs.InodeRecord.{kind_of}
 use Rattle.qx_records.specs.declared.kind.Kind.TheVariants as kinds
 use Rattle.qx_view.proofs.HoleRecords.{given_by_present, tests_by_present}
 use Rattle.qx_view.specs.Images.{Roots, inode_places, leaf_records, raw_of}
-use Rattle.qx_view.specs.Walk.{Finding, Taken, Test, finding_of, first_failing, inode_mode, inode_root, inode_tests, is_directory_kind, kind_tests, listed_after, named_inode, named_inodes, new_ones, node_tests, records_tests, root_tests, taken_from, taken_of, tests_of, top_tests, walked_inodes}
+use Rattle.qx_view.specs.Walk.{Taken, finding_of, first_failing, inode_mode, inode_root, inode_tests, is_directory_kind, kind_tests, listed_after, named_inode, named_inodes, new_ones, node_tests, records_tests, root_tests, taken_from, taken_of, top_tests, walked_inodes}
 
 -- inode 1, as it is taken first
 abbrev pub first_taken : Taken

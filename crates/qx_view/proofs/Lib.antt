@@ -15,6 +15,8 @@ pub mod AlikeLists
 pub mod SystemTrees
 pub mod OuterNodes
 pub mod MetBlocks
+pub mod CountedLinks
+pub mod AscendingRanges
 pub mod HoleRecords
 pub mod HollowTop
 pub mod ActiveHalf

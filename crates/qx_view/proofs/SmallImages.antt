@@ -1,6 +1,6 @@
 -- An image whose blocks are the small volume's is sound with the empty tree.
 use Rattle.std.proofs.Common.{◌≡◌, ℕ, ◌<◌, List, length, refl, ap, sym, ◌∙◌, subst, arith}
-use Rattle.std.specs.Prelude.{Option, Some, None, bytes_eq, true}
+use Rattle.std.specs.Prelude.{Some, None, bytes_eq, true}
 use Rattle.std.specs.List.{list_all}
 use Rattle.std.proofs.lemmas.Slice.Eq.{bytes_eq-Decides}
 use Rattle.qx_fields.specs.Number.{field, fields}

@@ -3,6 +3,7 @@ use Rattle.std.specs.Prelude.{ℕ, ◌+◌, ◌*◌, ◌-◌, ◌^◌, ◌/◌, 
 use Rattle.std.specs.List.{range_with_len}
 use Rattle.qx_geom.specs.declared.root.Root.{Root}
 use Rattle.qx_geom.specs.Layout.{blocks_begin}
+use Rattle.qx_geom.specs.Lists.{each_below}
 use Rattle.qx_geom.specs.Pointer.{absent}
 use Rattle.qx_nodes.specs.BlockMap.{BlockMap}
 use Rattle.qx_nodes.specs.Leaves.{Leaf, Block, Hole, Damage, leaf_of}
@@ -54,6 +55,10 @@ inode_of m inodes n = inode_in m.order (inode_bytes m inodes n)
 -- record k of a directory; one in a hole is unused
 abbrev pub raw_of : BlockMap → Root → ℕ → RawRecord
 raw_of m node k = raw_in m.order (piece_of m node (k * 32) 32)
+
+-- the records of a directory, in order
+abbrev pub all_records : Root → List ℕ
+all_records node = each_below (node.size / 32) (λ k. k)
 
 -- record k of a directory lies in a leaf that isn't present
 pub record IsInHole (m : BlockMap) (node : Root) (k : ℕ) : Type 0 where

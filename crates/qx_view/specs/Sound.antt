@@ -23,7 +23,7 @@ use Rattle.qx_super.specs.declared.choice.Pick.TheVariants as picks
 use Rattle.qx_super.specs.Superblock.{Superblock}
 use Rattle.qx_super.specs.Active.{active_area, active_super}
 use Rattle.qx_model.specs.Tree.{Tree}
-use Rattle.qx_view.specs.Images.{Roots, main_roots, image_blocks, inode_places, inode_bytes, inode_of, raw_of}
+use Rattle.qx_view.specs.Images.{Roots, all_records, main_roots, image_blocks, inode_places, inode_bytes, inode_of, raw_of}
 use Rattle.qx_view.specs.Reading.{IsTreeOf}
 use Rattle.qx_view.specs.Walk.{inode_root, inode_mode, is_directory_inode, walked_inodes, Finding, finding_of}
 
@@ -189,11 +189,13 @@ long_number (Short n name) = None
 long_number (Long n number sum) = Some number
 long_number (Bad count) = None
 
+-- the long-name numbers of these records of a directory
+abbrev pub numbers_named_in : BlockMap → Root → List ℕ → List ℕ
+numbers_named_in m node ks = filter_map (λ k. long_number (raw_of m node k)) ks
+
 -- the long-name numbers of all records of the reached directories
 abbrev pub numbers_named : BlockMap → Roots → List ℕ → List ℕ
-numbers_named m r reached =
-    flat_map (λ d. filter_map (λ k. long_number (raw_of m (inode_root m r d) k)) (each_below ((inode_root m r d).size / 32) (λ k. k)))
-    (filter (is_directory_inode m r) reached)
+numbers_named m r reached = flat_map (λ d. numbers_named_in m (inode_root m r d) (all_records (inode_root m r d))) (filter (is_directory_inode m r) reached)
 
 -- the least present number that isn't named exactly once, or 0 for the size
 abbrev pub bad_long_name : BlockMap → Roots → List ℕ → Option ℕ

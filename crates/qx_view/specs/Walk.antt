@@ -1,8 +1,8 @@
 -- The checker's first part: which inodes are taken in which order, all the tests in that order, and the first that fails.
-use Rattle.std.specs.Prelude.{ℕ, zero, suc, ◌+◌, ◌/◌, Bool, true, false, not, ◌&&◌, List, [], ◌∷◌, ◌++◌, length, map, flat_map, filter_map, Option, Some, None, is_some, option_and_then, option_to_list, unwrap_or, bytes_eq, nat_lt, ◌==◌, if◌then◌else◌}
+use Rattle.std.specs.Prelude.{ℕ, zero, suc, ◌+◌, Bool, true, false, not, ◌&&◌, List, [], ◌∷◌, ◌++◌, length, map, flat_map, filter_map, Option, Some, None, is_some, option_and_then, option_to_list, unwrap_or, bytes_eq, nat_lt, ◌==◌, if◌then◌else◌}
 use Rattle.std.specs.List.{list_any}
 use Rattle.qx_geom.specs.declared.root.Root.{Root}
-use Rattle.qx_geom.specs.Lists.{each_below, is_in}
+use Rattle.qx_geom.specs.Lists.{is_in}
 use Rattle.qx_geom.specs.Pointer.{absent}
 use Rattle.qx_nodes.specs.BlockMap.{BlockMap}
 use Rattle.qx_nodes.specs.Visits.{Visit, visits_of}
@@ -14,7 +14,7 @@ use Rattle.qx_records.specs.NameRecord.{RawRecord, Short, Long, Bad}
 use Rattle.qx_records.specs.NameRecord as records
 use Rattle.qx_records.specs.NameSum.{sum_fits}
 use Rattle.qx_model.specs.Tree.{Slot, Unused, Row, is_dots, named_by}
-use Rattle.qx_view.specs.Images.{Roots, inode_places, inode_of, has_inode, raw_of, record_block, long_name}
+use Rattle.qx_view.specs.Images.{Roots, all_records, inode_places, inode_of, has_inode, raw_of, record_block, long_name}
 use Rattle.qx_view.specs.Reading.{slot_of, is_plain}
 
 -- ---- the order
@@ -43,12 +43,13 @@ is_directory_inode m r n = is_directory_kind (kind_of (inode_mode m r n))
 abbrev pub named_inode : BlockMap → Root → RawRecord → Option ℕ
 named_inode m longfile raw = option_and_then named_by (slot_of m longfile raw)
 
+-- the inodes that these records of a directory name
+abbrev pub inodes_named_in : BlockMap → Root → Root → List ℕ → List ℕ
+inodes_named_in m longfile node ks = filter_map (λ k. named_inode m longfile (raw_of m node k)) ks
+
 -- the inodes that the records of inode n name, if it is a directory
 abbrev pub named_inodes : BlockMap → Roots → ℕ → List ℕ
-named_inodes m r n =
-    if is_directory_inode m r n
-    then filter_map (λ k. named_inode m r.longfile (raw_of m (inode_root m r n) k)) (each_below ((inode_root m r n).size / 32) (λ k. k))
-    else []
+named_inodes m r n = if is_directory_inode m r n then inodes_named_in m r.longfile (inode_root m r n) (all_records (inode_root m r n)) else []
 
 -- those of a list that weren't listed, each once
 abbrev pub new_ones : List ℕ → List ℕ → List ℕ
@@ -148,7 +149,7 @@ kind_tests m r t node (Some kinds.File) = node_tests m t.inode node (levels_fit 
 kind_tests m r t node (Some kinds.Link) =
     node_tests m t.inode node (levels_fit m node) ++ Tested 6 t.inode absent (not (node.size == 0) && nat_lt node.size 1024) ∷ []
 kind_tests m r t node (Some kinds.Directory) =
-    node_tests m t.inode node (levels_fit m node) ++ records_tests m r t.inode t.parent node [] t.listed (each_below (node.size / 32) (λ k. k))
+    node_tests m t.inode node (levels_fit m node) ++ records_tests m r t.inode t.parent node [] t.listed (all_records node)
 
 -- all the tests of an inode that is taken
 abbrev pub inode_tests : BlockMap → Roots → Taken → List Test

@@ -1,22 +1,22 @@
 //! Laws of what an image means.
-ghost use Rattle.std.specs.Prelude.{◌≡◌, ◌⊎◌, ◌↔◌, ◌+◌, ◌*◌, ◌<◌, ◌≤◌, ℕ, Bool, ◌/◌, ◌%◌, IsTrue, List, [], Contains, filter_map, length, Some, None};
+ghost use Rattle.std.specs.Prelude.{◌≡◌, ◌⊎◌, ◌↔◌, ◌+◌, ◌*◌, ◌<◌, ◌≤◌, ℕ, Bool, ◌/◌, ◌%◌, IsTrue, List, [], Contains, count_by, flat_map, ◌==◌, length, Some, None};
 ghost use Rattle.qx_geom.specs.declared.area.Which.{Which};
 ghost use Rattle.qx_geom.specs.declared.geometry.Geometry.{Geometry};
 ghost use Rattle.qx_geom.specs.Layout.{IsPointerBlock, first_block};
-ghost use Rattle.qx_geom.specs.Lists.{Distinct, each_below};
+ghost use Rattle.qx_geom.specs.Lists.{Distinct};
 ghost use Rattle.qx_nodes.specs.BlockMap.{BlockMap};
 ghost use Rattle.qx_nodes.specs.Content.{HasSize, levels_fit};
 ghost use Rattle.qx_geom.specs.declared.root.Root.{Root};
 ghost use Rattle.qx_records.specs.NameRecord.{Unused};
-ghost use Rattle.qx_model.specs.Tree.{Tree};
+ghost use Rattle.qx_model.specs.Tree.{Tree, links_of};
 ghost use Rattle.qx_super.specs.declared.choice.Pick.TheVariants as picks;
 ghost use Rattle.qx_super.specs.Active.{active_area, active_super};
 ghost use Rattle.qx_super.specs.Superblock.{Superblock};
-ghost use Rattle.qx_view.specs.Images.{IsInHole, Roots, block_bytes, image_blocks, main_roots, present_records, raw_of};
+ghost use Rattle.qx_view.specs.Images.{IsInHole, Roots, all_records, block_bytes, image_blocks, main_roots, present_records, raw_of};
 ghost use Rattle.qx_view.specs.Reading.{IsHeld, IsTree, IsTreeOf};
 ghost use Rattle.qx_view.specs.Usage.{met_blocks};
-ghost use Rattle.qx_view.specs.Walk.{Finding, Place, finding_of, named_inode, record_tests, records_tests};
-ghost use Rattle.qx_view.specs.Sound.{Clean, Damaged, Foreign, IsDamaged, IsForeign, IsSound, Reason, long_number, verdict_of, written_geometry};
+ghost use Rattle.qx_view.specs.Walk.{Finding, Place, finding_of, inodes_named_in, named_inode, named_inodes, record_tests, records_tests, walked_inodes};
+ghost use Rattle.qx_view.specs.Sound.{Clean, Damaged, Foreign, IsDamaged, IsForeign, IsSound, Reason, long_number, numbers_named_in, verdict_of, written_geometry};
 
 /// An image has one tree at most.
 pub fn an_image_has_one_tree()
@@ -60,13 +60,11 @@ pub fn records_in_holes_say_nothing()
 pub fn the_records_of_present_leaves_say_all()
     ensures tests { (m : BlockMap) (r : Roots) (d p : ℕ) (node : Root) (names : List (List ℕ)) (listed : List ℕ)
         → HasSize m → m.size % 32 ≡ 0 → IsTrue (levels_fit m node)
-        → records_tests m r d p node names listed (each_below (node.size / 32) (λ k. k)) ≡ records_tests m r d p node names listed (present_records m node) }
+        → records_tests m r d p node names listed (all_records node) ≡ records_tests m r d p node names listed (present_records m node) }
     ensures inodes { (m : BlockMap) (longfile node : Root) → HasSize m → m.size % 32 ≡ 0 → IsTrue (levels_fit m node)
-        → filter_map (λ k. named_inode m longfile (raw_of m node k)) (each_below (node.size / 32) (λ k. k))
-        ≡ filter_map (λ k. named_inode m longfile (raw_of m node k)) (present_records m node) }
+        → inodes_named_in m longfile node (all_records node) ≡ inodes_named_in m longfile node (present_records m node) }
     ensures numbers { (m : BlockMap) (node : Root) → HasSize m → m.size % 32 ≡ 0 → IsTrue (levels_fit m node)
-        → filter_map (λ k. long_number (raw_of m node k)) (each_below (node.size / 32) (λ k. k))
-        ≡ filter_map (λ k. long_number (raw_of m node k)) (present_records m node) }
+        → numbers_named_in m node (all_records node) ≡ numbers_named_in m node (present_records m node) }
 {}
 
 /// The walk of roots that have a tree comes to each block that the tree holds, to each once, and to no other.
@@ -74,6 +72,12 @@ pub fn the_walk_meets_the_held_blocks()
     ensures held { (m : BlockMap) (r : Roots) (t : Tree) (b : ℕ) → HasSize m → IsTreeOf m r t
         → Contains (met_blocks m r) b ↔ IsHeld m r t b }
     ensures once { (m : BlockMap) (r : Roots) (t : Tree) → HasSize m → IsTreeOf m r t → Distinct (met_blocks m r) }
+{}
+
+/// An inode of a tree has as many links as the records of the walk's directories that name it.
+pub fn the_walk_counts_the_links()
+    ensures { (m : BlockMap) (r : Roots) (t : Tree) (n : ℕ) → HasSize m → IsTreeOf m r t
+        → links_of t n ≡ count_by (λ i. i == n) (flat_map (named_inodes m r) (walked_inodes m r)) }
 {}
 
 /// An image is clean exactly where it is sound, and then with its active area and that area's superblock.

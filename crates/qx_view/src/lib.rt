@@ -22,8 +22,8 @@ pub use laws::{
     a_tree_means_no_finding, an_image_has_one_tree, clean_images_are_the_sound_ones,
     damaged_images_have_a_finding, foreign_images_have_a_tree, held_blocks_decide_the_tree,
     no_finding_means_a_tree, records_in_holes_say_nothing, the_active_half_is_held,
-    the_records_of_present_leaves_say_all, the_walk_meets_the_held_blocks,
-    what_soundness_depends_on,
+    the_records_of_present_leaves_say_all, the_walk_counts_the_links,
+    the_walk_meets_the_held_blocks, what_soundness_depends_on,
 };
 pub use volumes::{
     a_long_name_has_one_row, a_volume_of_eighteen_inodes, a_volume_with_pointer_blocks,

@@ -1,8 +1,8 @@
-use Rattle.qx_geom.specs.declared.area.Which.TheVariants.{First, Second}
-use Rattle.qx_view.proofs.SmallImages.{first_changed, first_changed-sound, second_changed, second_changed-sound, whole, whole-sound}
+use Rattle.qx_geom.specs.declared.area.Which.TheVariants.{Second}
+use Rattle.qx_view.proofs.SmallImages.{whole, whole-sound}
 use Rattle.qx_view.proofs.Verdicts.{sound_clean}
 use Rattle.qx_view.specs.Examples.{empty_tree, made_super}
-use Rattle.qx_view.specs.SmallImage.{changed, first_bytes, image_with, made_first, second_bytes, small_image}
+use Rattle.qx_view.specs.SmallImage.{small_image}
 use Rattle.qx_view.proofs.images.the_small_image_is_clean.Goals as goal
 
 pub returns-clause-length : goal.returns-clause-length

@@ -8,10 +8,10 @@ use Rattle.qx_super.specs.declared.choice.Pick.TheVariants as picks
 use Rattle.qx_view.specs.SmallImage.{made_bytes, zeros}
 use Rattle.qx_view.specs.Sound.{verdict_at}
 use Rattle.qx_geom.specs.declared.area.Which.TheVariants.{First, Second}
-use Rattle.qx_view.proofs.SmallImages.{first_changed, first_changed-sound, second_changed, second_changed-sound, whole, whole-sound}
+use Rattle.qx_view.proofs.SmallImages.{first_changed, first_changed-sound, second_changed, second_changed-sound}
 use Rattle.qx_view.proofs.Verdicts.{sound_clean}
 use Rattle.qx_view.specs.Examples.{empty_tree, made_super}
-use Rattle.qx_view.specs.SmallImage.{changed, first_bytes, image_with, made_first, second_bytes, small_image}
+use Rattle.qx_view.specs.SmallImage.{changed, first_bytes, image_with, made_first, second_bytes}
 use Rattle.qx_view.proofs.images.the_small_image_with_changed_superblocks.Goals as goal
 
 pub returns-clause-first : goal.returns-clause-first
