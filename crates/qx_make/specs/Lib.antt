@@ -3,3 +3,4 @@ pub mod NewVolume
 pub mod Superblocks
 pub mod Stages
 pub mod Cut
+pub mod Make

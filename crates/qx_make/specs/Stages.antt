@@ -56,12 +56,16 @@ pub record PerformsAll {D T E : Type 0} (tells : D → Bool) (history : D → Hi
   pub kept_ok : OnOk result (IsTrue (tells new) → bytes_of (history old) ≡ kept → IsAtRest all (history new))
   pub lengths : IsTrue (tells new) → lengths_asked (history new).deeds ≡ lengths_asked (history old).deeds
 
+-- at most one length was asked for, this one
+abbrev pub AsksOneLength : ℕ → History → History → Type 0
+AsksOneLength size old new = (lengths_asked new.deeds ≡ lengths_asked old.deeds) ⊎ (lengths_asked new.deeds ≡ size ∷ lengths_asked old.deeds)
+
 -- the stages of a new volume, which gets this length on the way
 pub record MakesAll {D T E : Type 0} (tells : D → Bool) (history : D → History) (size : ℕ) (kept all : List ℕ) (stages : List Stage) (result : Result T E) (old new : D) : Type 0 where
   pub reaches : Reaches tells history (IsAtRest kept) (IsInStage stages) old new
   pub ok : OnOk result (Moves tells history (IsAtRest kept) (IsAtRest all) (IsInStage stages) old new)
   pub kept_ok : OnOk result (IsTrue (tells new) → bytes_of (history old) ≡ kept → IsAtRest all (history new))
-  pub lengths : IsTrue (tells new) → (lengths_asked (history new).deeds ≡ lengths_asked (history old).deeds) ⊎ (lengths_asked (history new).deeds ≡ size ∷ lengths_asked (history old).deeds)
+  pub lengths : IsTrue (tells new) → AsksOneLength size (history old) (history new)
 
 -- ---- the old areas
 

@@ -1,0 +1,37 @@
+-- What the maker promises for its options.
+use Rattle.std.specs.Prelude.{ℕ, ◌≡◌, ◌-◌, List, Result, Some}
+use Rattle.qx_geom.specs.declared.area.Which.TheVariants.{Second}
+use Rattle.qx_geom.specs.declared.geometry.GeomFault.{GeomFault}
+use Rattle.qx_geom.specs.declared.geometry.Geometry.{Geometry}
+use Rattle.qx_geom.specs.Layout.{geometry_of, user_blocks}
+use Rattle.qx_model.specs.EmptyTree.{empty_tree}
+use Rattle.qx_model.specs.Tree.{Tree}
+use Rattle.qx_outside.specs.Images.{IsSettled}
+use Rattle.qx_outside.specs.Trail.{History, bytes_of}
+use Rattle.qx_super.specs.declared.choice.Pick.TheVariants as picks
+use Rattle.qx_super.specs.Active.{active_area, active_super}
+use Rattle.qx_view.specs.Sound.{IsSound}
+use Rattle.qx_make.specs.declared.options.Made.{Made}
+use Rattle.qx_make.specs.declared.options.MakeOptions.{MakeOptions}
+use Rattle.qx_make.specs.NewVolume.{made_superblock}
+use Rattle.qx_make.specs.Stages.{made_bytes}
+
+-- the numbers of the volume that the options ask for, or why they are those of none
+abbrev pub geometry_for : MakeOptions → Result Geometry GeomFault
+geometry_for o = geometry_of o.size o.blocksize o.inodes
+
+-- what is answered of a volume that was made
+abbrev pub made_of : Geometry → Made
+made_of g = record { blocks = g.num_blocks; user = user_blocks g; free = user_blocks g - 1; inodes = g.num_inodes }
+
+-- its tree
+abbrev pub tree_for : MakeOptions → Tree
+tree_for o = empty_tree o.blocksize o.inodes o.moment
+
+-- a device with these old bytes has the new volume, byte for byte as the format lays it out, and nothing is pending
+pub record HasMade (o : MakeOptions) (g : Geometry) (old : List ℕ) (h : History) : Type 0 where
+  pub bytes : bytes_of h ≡ made_bytes g o.order o.moment o.size old
+  pub settled : IsSettled h
+  pub active : active_area (bytes_of h) ≡ picks.Active Second
+  pub superblock : active_super (bytes_of h) ≡ Some (made_superblock g o.order o.moment 2 Second)
+  pub sound : IsSound (bytes_of h) (tree_for o)
