@@ -1,6 +1,7 @@
 -- Bytes are put into both areas of a volume: what each call leaves.
-use Rattle.std.proofs.Common.{◌≡◌, ℕ, ◌+◌, ◌≤◌, Bool, true, Result, Ok, IsErr, Option, List, [], ◌∷◌, length, refl, arith}
+use Rattle.std.proofs.Common.{◌≡◌, ℕ, ◌+◌, ◌≤◌, Bool, true, Result, Ok, IsErr, Option, List, [], ◌∷◌, length, refl, ◌∙◌, arith}
 use Rattle.std.specs.Prelude.{IfSome}
+use Rattle.qx_bytes.proofs.Puts.{length_put}
 use Rattle.qx_geom.specs.declared.area.Which.TheVariants.{First, Second}
 use Rattle.qx_geom.specs.declared.geometry.Geometry.{Geometry}
 use Rattle.qx_geom.specs.Layout.{IsGeometry, area_place}
@@ -30,6 +31,12 @@ module _ (g : Geometry) (e : IsGeometry g) (first second : List ℕ) (first_shor
 
   pub second_told : (before len : Option ℕ) → StaysWhereTold before len → IfSome before (λ n. g.len4 ≤ n) → IfSome len (λ n. area_place g Second + length second ≤ n)
   second_told before len stays told = told_weaker len (λ n. g.len4 ≤ n) (λ n. area_place g Second + length second ≤ n) (λ n enough. omega (arith, second_within g e)) (told_after before len (λ n. g.len4 ≤ n) stays told)
+
+  -- the length stays
+  pub length-areas : (bytes : List ℕ) → g.len4 ≤ length bytes → length (after_stage (areas_stage g first second bytes)) ≡ length bytes
+  length-areas bytes long =
+      let one : length (put_at bytes (area_place g First) first) ≡ length bytes = length_put bytes first (area_place g First) (length first) refl (omega (arith, first_within g e)) in
+      length_put (put_at bytes (area_place g First) first) second (area_place g Second) (length second) refl (omega (arith, second_within g e, one)) ∙ one
 
   module _ (bytes : List ℕ) (long : g.len4 ≤ length bytes) {D : Type 0} (tells : D → Bool) (history : D → History) where
     -- the stage

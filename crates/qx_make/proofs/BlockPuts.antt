@@ -3,6 +3,7 @@ use Rattle.std.proofs.Common.{◌≡◌, ℕ, ◌+◌, ◌-◌, ◌*◌, ◌≤�
 use Rattle.std.specs.Prelude.{IfSome, IsTrue}
 use Rattle.std.specs.List.{flat_map, range_with_len}
 use Rattle.std.proofs.Math.Nat.{mul-le-mul_right}
+use Rattle.qx_bytes.proofs.Puts.{length_put}
 use Rattle.qx_fields.specs.declared.order.Order.{Order}
 use Rattle.qx_geom.specs.declared.geometry.Geometry.{Geometry}
 use Rattle.qx_geom.specs.Layout.{IsGeometry}
@@ -70,6 +71,11 @@ module _ (g : Geometry) (e : IsGeometry g) (order : Order) (moment : ℕ) where
         ∙ put_next bytes (parts 0 first) (parts first count) 0x3000 (omega (arith, blocks_room first count within))
         ∙ ap (λ (l : List ℕ). put_at bytes 0x3000 l) (ap (λ (x : ℕ). parts 0 first ++ parts x count) (let from : first ≡ 0 + first = omega arith in from) ∙ sym (parts_split (made_block_bytes g order moment) 0 first count))
 
+    -- the length stays
+    pub length-blocks : length (after_stage stage) ≡ length bytes
+    unfolding all_block_bytes
+    length-blocks = length_put bytes (parts 0 (top_block g + 1)) 0x3000 (length (parts 0 (top_block g + 1))) refl (omega (arith, length-made (top_block g + 1) 0, blocks_room 0 (top_block g + 1) (omega arith)))
+
     -- a piece is a part of the stage
     piece_part : (first count : ℕ) (piece : List ℕ) → piece ≡ parts first count → first + count ≤ top_block g + 1 → IsPartOf stage.puts (0x3000 + first * g.blocksize) piece
     unfolding all_block_bytes
@@ -98,20 +104,20 @@ module _ (g : Geometry) (e : IsGeometry g) (order : Order) (moment : ℕ) where
         piece_fails result first count piece a b c err is within writes begun =
             let p = fail_to_put tells history stage result err (0x3000 + first * g.blocksize) piece (so_far first) a b c (piece_part first count piece is within)
             (omega (arith, blocks_room first count within, ap length is, length-made count first)) writes begun in
-            record { reaches = p.reaches; ok = none_of_err tells history stage result _ err; now = none_of_err tells history stage result _ err; lengths = p.lengths }
+            record { reaches = p.reaches; ok = none_of_err tells history stage result _ err; now = none_of_err tells history stage result _ err; others = p.others }
 
         pub pieces_done : (x : T) (first : ℕ) (a b : D) → first ≡ top_block g + 1 → HasBegun tells history stage (so_far first) a b → PutsAll {E = E} tells history stage (Ok x) a b
         pieces_done x first a b all begun =
             let whole : HasBegun tells history stage (after_stage stage) a b = subst (λ (now : List ℕ). HasBegun tells history stage now a b) so_far-all (subst (λ (n : ℕ). HasBegun tells history stage (so_far n) a b) all begun) in
-            record { reaches = reaches_moves tells history (IsAtRest bytes) (HasPut bytes stage.puts (after_stage stage)) (IsAtRest bytes) (Passes stage) a b whole.moves; ok = whole.moves; now = whole.bytes; lengths = whole.lengths }
+            record { reaches = reaches_moves tells history (IsAtRest bytes) (HasPut bytes stage.puts (after_stage stage)) (IsAtRest bytes) (Passes stage) a b whole.moves; ok = whole.moves; now = whole.bytes; others = whole.others }
 
       -- the sync behind them
       module _ {T E : Type 0} where
         pub blocks_fail : (inner result : Result T E) (a b : D) → IsErr inner → IsErr result → PutsAll tells history stage inner a b → Performs tells history stage result a b
-        blocks_fail inner result a b broken err p = record { reaches = p.reaches; ok = none_of_err tells history stage result _ err; kept = none_of_err tells history stage result _ err; lengths = p.lengths }
+        blocks_fail inner result a b broken err p = record { reaches = p.reaches; ok = none_of_err tells history stage result _ err; kept = none_of_err tells history stage result _ err; others = p.others }
 
         begun_by : (x : T) (a b : D) → PutsAll {E = E} tells history stage (Ok x) a b → HasBegun tells history stage (after_stage stage) a b
-        begun_by x a b p = record { moves = p.ok; bytes = p.now; lengths = p.lengths }
+        begun_by x a b p = record { moves = p.ok; bytes = p.now; others = p.others }
 
         pub blocks_sync_fails : (x : T) (result : Result T E) (a b c : D) → IsErr result → PutsAll {E = E} tells history stage (Ok x) a b → Syncs tells history b c → Performs tells history stage result a c
         blocks_sync_fails x result a b c err p syncs = fail_to_sync tells history stage result err a b c syncs (begun_by x a b p)

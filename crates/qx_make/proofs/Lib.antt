@@ -9,6 +9,10 @@ pub mod PiecesWritten
 pub mod MadeBlockLengths
 pub mod BlockPuts
 pub mod StagesInOrder
+pub mod VolumeStages
+pub mod OldStages
+pub mod StagesOfMake
+pub mod MadeVolumes
 pub mod NumbersInRows
 pub mod NewBlocks
 pub mod NewWords

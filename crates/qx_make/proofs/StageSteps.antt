@@ -4,11 +4,11 @@ use Rattle.std.specs.Prelude.{IsTrue}
 
 use Rattle.qx_outside.specs.Ranges.{put_at}
 use Rattle.qx_outside.specs.Calls.{Did, Syncs, Writes}
-use Rattle.qx_outside.specs.Moments.{HasLengths, Keeps, Moves}
+use Rattle.qx_outside.specs.Moments.{HasOthers, Keeps, Moves}
 use Rattle.qx_outside.specs.Puts.{HasPut, IsAtRest, IsPartOf}
-use Rattle.qx_outside.specs.Trail.{History, bytes_of, wrote, synced, lengths_asked}
+use Rattle.qx_outside.specs.Trail.{Deed, History, bytes_of, wrote, synced, others_of}
 use Rattle.qx_outside.proofs.Throughout.{reaches_moves, throughout_last}
-use Rattle.qx_outside.proofs.PuttingMoments.{IsAtRest-synced, lengths_sync, lengths_write, moves_put, moves_rest, moves_sync, reaches_put, reaches_sync}
+use Rattle.qx_outside.proofs.PuttingMoments.{IsAtRest-synced, others_sync, others_write, moves_put, moves_rest, moves_sync, reaches_put, reaches_sync}
 use Rattle.qx_make.specs.Stages.{Passes, Performs, Stage, after_stage}
 
 module _ {D : Type 0} (tells : D → Bool) (history : D → History) (stage : Stage) where
@@ -16,18 +16,18 @@ module _ {D : Type 0} (tells : D → Bool) (history : D → History) (stage : St
   pub record HasBegun (now : List ℕ) (old new : D) : Type 0 where
     pub moves : Moves tells history (IsAtRest stage.kept) (HasPut stage.kept stage.puts now) (Passes stage) old new
     pub bytes : IsTrue (tells new) → bytes_of (history old) ≡ stage.kept → bytes_of (history new) ≡ now
-    pub lengths : IsTrue (tells new) → lengths_asked (history new).deeds ≡ lengths_asked (history old).deeds
+    pub others : IsTrue (tells new) → others_of (history new).deeds ≡ others_of (history old).deeds
 
-  -- a call that keeps each list of lengths keeps that one
-  same_lengths : (a b c : D) → ((lengths : List ℕ) → Keeps tells history (HasLengths lengths) b c) → ((IsTrue (tells b)) → lengths_asked (history b).deeds ≡ lengths_asked (history a).deeds)
-      → IsTrue (tells c) → lengths_asked (history c).deeds ≡ lengths_asked (history a).deeds
-  same_lengths a b c keeps before told =
-      let lengths : List ℕ = lengths_asked (history a).deeds in
-      throughout_last (HasLengths lengths) (history b) (history c) ((keeps lengths).step told (before ((keeps lengths).before told)))
+  -- a call that keeps whichever other deeds there were keeps these
+  same_others : (a b c : D) → ((others : List Deed) → Keeps tells history (HasOthers others) b c) → ((IsTrue (tells b)) → others_of (history b).deeds ≡ others_of (history a).deeds)
+      → IsTrue (tells c) → others_of (history c).deeds ≡ others_of (history a).deeds
+  same_others a b c keeps before told =
+      let others : List Deed = others_of (history a).deeds in
+      throughout_last (HasOthers others) (history b) (history c) ((keeps others).step told (before ((keeps others).before told)))
 
   -- before the first call
   pub begin_stage : (a : D) → HasBegun stage.kept a a
-  begin_stage a = record { moves = moves_rest tells history stage.kept stage.puts (after_stage stage) a; bytes = λ told is. is; lengths = λ told. refl }
+  begin_stage a = record { moves = moves_rest tells history stage.kept stage.puts (after_stage stage) a; bytes = λ told is. is; others = λ told. refl }
 
   -- a part is put
   pub put_in_stage : (at : ℕ) (asked now : List ℕ) (a b c : D) → IsPartOf stage.puts at asked → at + length asked ≤ length stage.kept
@@ -35,7 +35,7 @@ module _ {D : Type 0} (tells : D → Bool) (history : D → History) (stage : St
   put_in_stage at asked now a b c part room did writes begun = record {
     moves = moves_put tells history stage.kept stage.puts (after_stage stage) at asked now a b c part room did begun.moves;
     bytes = λ told is. ap bytes_of (did.step told) ∙ ap (λ (l : List ℕ). put_at l at asked) (begun.bytes (did.before told) is);
-    lengths = same_lengths a b c (λ lengths. lengths_write tells history lengths at asked b c writes) begun.lengths;
+    others = same_others a b c (λ others. others_write tells history others at asked b c writes) begun.others;
   }
 
   module _ {T E : Type 0} where
@@ -51,7 +51,7 @@ module _ {D : Type 0} (tells : D → Bool) (history : D → History) (stage : St
       reaches = reaches_put tells history stage.kept stage.puts (after_stage stage) at asked now a b c part room writes begun.moves;
       ok = none_of_err result _ err;
       kept = none_of_err result _ err;
-      lengths = same_lengths a b c (λ lengths. lengths_write tells history lengths at asked b c writes) begun.lengths;
+      others = same_others a b c (λ others. others_write tells history others at asked b c writes) begun.others;
     }
 
     -- a sync that fails
@@ -60,7 +60,7 @@ module _ {D : Type 0} (tells : D → Bool) (history : D → History) (stage : St
       reaches = reaches_sync tells history stage.kept stage.puts (after_stage stage) a b c syncs begun.moves;
       ok = none_of_err result _ err;
       kept = none_of_err result _ err;
-      lengths = same_lengths a b c (λ lengths. lengths_sync tells history lengths b c syncs) begun.lengths;
+      others = same_others a b c (λ others. others_sync tells history others b c syncs) begun.others;
     }
 
     -- a good sync ends it
@@ -71,5 +71,5 @@ module _ {D : Type 0} (tells : D → Bool) (history : D → History) (stage : St
           reaches = reaches_moves tells history (IsAtRest stage.kept) (IsAtRest (after_stage stage)) (IsAtRest (after_stage stage)) (Passes stage) a c m;
           ok = m;
           kept = λ told is. subst (λ (h : History). IsAtRest (after_stage stage) h) (sym (did.step told)) (IsAtRest-synced stage.kept stage.puts (history b) (after_stage stage) (begun.bytes (did.before told) is));
-          lengths = same_lengths a b c (λ lengths. lengths_sync tells history lengths b c syncs) begun.lengths;
+          others = same_others a b c (λ others. others_sync tells history others b c syncs) begun.others;
         }

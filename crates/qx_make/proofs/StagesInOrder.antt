@@ -7,7 +7,7 @@ use Rattle.qx_outside.specs.Calls.{Idles}
 use Rattle.qx_outside.specs.Moments.{Moves, Reaches}
 use Rattle.qx_outside.specs.Puts.{IsAtRest, IsPutting}
 use Rattle.qx_outside.specs.Ranges.{put_at}
-use Rattle.qx_outside.specs.Trail.{History, bytes_of, lengths_asked}
+use Rattle.qx_outside.specs.Trail.{History, bytes_of, others_of}
 use Rattle.qx_outside.proofs.PuttingMoments.{IsPutting-rest, put_none}
 use Rattle.qx_outside.proofs.Throughout.{reaches_then, moves_then, throughout_here, throughout_map}
 use Rattle.qx_bytes.proofs.Puts.{length_put}
@@ -62,7 +62,7 @@ module _ {D : Type 0} (tells : D → Bool) (history : D → History) where
       reaches = reaches_map (IsAtRest stage.kept) (Passes stage) (IsInStage stages) (λ h. passes_in stages stage next h among then same) a b p.reaches;
       ok = on_ok result _ _ (moves_map (IsAtRest stage.kept) (IsAtRest (after_stage stage)) (Passes stage) (IsInStage stages) (λ h. passes_in stages stage next h among then same) a b) p.ok;
       kept_ok = p.kept;
-      lengths = p.lengths;
+      others = p.others;
     }
 
     -- more stages behind them
@@ -72,5 +72,10 @@ module _ {D : Type 0} (tells : D → Bool) (history : D → History) where
       reaches = reaches_then tells history (IsAtRest kept) (IsAtRest mid) (IsAtRest mid) (IsInStage stages) a b c second.reaches first.ok;
       ok = on_ok result _ _ (λ m. moves_then tells history (IsAtRest kept) (IsAtRest mid) (IsAtRest all) (IsInStage stages) a b c m first.ok) second.ok;
       kept_ok = on_ok result _ _ (λ f told is. f told (first.kept_ok (second.reaches.before told) is).bytes_are) second.kept_ok;
-      lengths = λ told. second.lengths told ∙ first.lengths (second.reaches.before told);
+      others = λ told. second.others told ∙ first.others (second.reaches.before told);
     }
+
+    -- where they fail it doesn't matter how far they were to lead, nor with which answer
+    pub perform_fails : {F G : Type 0} (stages : List Stage) (kept mid all : List ℕ) (inner : Result F G) (result : Result T E) (a b : D) → IsErr result
+        → PerformsAll tells history kept mid stages inner a b → PerformsAll tells history kept all stages result a b
+    perform_fails stages kept mid all inner result a b err p = record { reaches = p.reaches; ok = on_err result _ err; kept_ok = on_err result _ err; others = p.others }

@@ -1,5 +1,5 @@
 -- What the maker promises for its options.
-use Rattle.std.specs.Prelude.{ℕ, ◌≡◌, ◌-◌, List, Result, Some}
+use Rattle.std.specs.Prelude.{ℕ, ◌≡◌, ◌-◌, Bool, IsTrue, List, Result, Some}
 use Rattle.qx_geom.specs.declared.area.Which.TheVariants.{Second}
 use Rattle.qx_geom.specs.declared.geometry.GeomFault.{GeomFault}
 use Rattle.qx_geom.specs.declared.geometry.Geometry.{Geometry}
@@ -7,12 +7,14 @@ use Rattle.qx_geom.specs.Layout.{geometry_of, user_blocks}
 use Rattle.qx_model.specs.EmptyTree.{empty_tree}
 use Rattle.qx_model.specs.Tree.{Tree}
 use Rattle.qx_outside.specs.Images.{IsSettled}
-use Rattle.qx_outside.specs.Trail.{History, bytes_of}
+use Rattle.qx_outside.specs.Moments.{HoldsThroughout}
+use Rattle.qx_outside.specs.Trail.{History, bytes_of, input, output}
 use Rattle.qx_super.specs.declared.choice.Pick.TheVariants as picks
 use Rattle.qx_super.specs.Active.{active_area, active_super}
 use Rattle.qx_view.specs.Sound.{IsSound}
 use Rattle.qx_make.specs.declared.options.Made.{Made}
 use Rattle.qx_make.specs.declared.options.MakeOptions.{MakeOptions}
+use Rattle.qx_make.specs.Cut.{IsReadyToMake, LeavesByMaker}
 use Rattle.qx_make.specs.NewVolume.{made_superblock}
 use Rattle.qx_make.specs.Stages.{made_bytes}
 
@@ -35,3 +37,13 @@ pub record HasMade (o : MakeOptions) (g : Geometry) (old : List ℕ) (h : Histor
   pub active : active_area (bytes_of h) ≡ picks.Active Second
   pub superblock : active_super (bytes_of h) ≡ Some (made_superblock g o.order o.moment 2 Second)
   pub sound : IsSound (bytes_of h) (tree_for o)
+
+-- on a device that is ready for it an image gives at each moment no volume, or the old active area with its trees, or the new tree
+pub record MakesAtEachMoment {D : Type 0} (tells : D → Bool) (history : D → History) (o : MakeOptions) (old new : D) : Type 0 where
+  pub before : IsTrue (tells new) → IsTrue (tells old)
+  pub step : IsTrue (tells new) → IsReadyToMake (history old) → HoldsThroughout (LeavesByMaker (bytes_of (history old)) o.size (tree_for o)) (history old) (history new)
+
+-- nothing was taken from the console, and nothing given to it
+pub record KeepsQuiet (old new : History) : Type 0 where
+  pub taken : input new ≡ input old
+  pub given : output new ≡ output old

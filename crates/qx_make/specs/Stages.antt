@@ -3,7 +3,7 @@ use Rattle.std.specs.Prelude.{ℕ, ◌≡◌, IsTrue, Bool, Result, OnOk, ◌+�
 use Rattle.std.specs.List.{range_with_len}
 use Rattle.qx_outside.specs.Moments.{Moves, Reaches}
 use Rattle.qx_outside.specs.Puts.{HasPut, IsAtRest, IsPutting, Put, PutsOrRests, with_puts}
-use Rattle.qx_outside.specs.Trail.{History, bytes_of, lengths_asked, resized}
+use Rattle.qx_outside.specs.Trail.{Deed, History, bytes_of, lengths_asked, others_of, resized, sized}
 use Rattle.qx_fields.specs.declared.order.Order.{Order}
 use Rattle.qx_geom.specs.declared.area.Which.{Which}
 use Rattle.qx_geom.specs.declared.area.Which.TheVariants.{First, Second}
@@ -34,14 +34,14 @@ pub record Performs {D T E : Type 0} (tells : D → Bool) (history : D → Histo
   pub reaches : Reaches tells history (IsAtRest stage.kept) (Passes stage) old new
   pub ok : OnOk result (Moves tells history (IsAtRest stage.kept) (IsAtRest (after_stage stage)) (Passes stage) old new)
   pub kept : OnOk result (IsTrue (tells new) → bytes_of (history old) ≡ stage.kept → IsAtRest (after_stage stage) (history new))
-  pub lengths : IsTrue (tells new) → lengths_asked (history new).deeds ≡ lengths_asked (history old).deeds
+  pub others : IsTrue (tells new) → others_of (history new).deeds ≡ others_of (history old).deeds
 
 -- the same, but where it is Ok all is put and not yet kept
 pub record PutsAll {D T E : Type 0} (tells : D → Bool) (history : D → History) (stage : Stage) (result : Result T E) (old new : D) : Type 0 where
   pub reaches : Reaches tells history (IsAtRest stage.kept) (Passes stage) old new
   pub ok : OnOk result (Moves tells history (IsAtRest stage.kept) (HasPut stage.kept stage.puts (after_stage stage)) (Passes stage) old new)
   pub now : OnOk result (IsTrue (tells new) → bytes_of (history old) ≡ stage.kept → bytes_of (history new) ≡ after_stage stage)
-  pub lengths : IsTrue (tells new) → lengths_asked (history new).deeds ≡ lengths_asked (history old).deeds
+  pub others : IsTrue (tells new) → others_of (history new).deeds ≡ others_of (history old).deeds
 
 -- the device is in one of these stages
 pub record IsInStage (stages : List Stage) (h : History) : Type 0 where
@@ -54,18 +54,22 @@ pub record PerformsAll {D T E : Type 0} (tells : D → Bool) (history : D → Hi
   pub reaches : Reaches tells history (IsAtRest kept) (IsInStage stages) old new
   pub ok : OnOk result (Moves tells history (IsAtRest kept) (IsAtRest all) (IsInStage stages) old new)
   pub kept_ok : OnOk result (IsTrue (tells new) → bytes_of (history old) ≡ kept → IsAtRest all (history new))
-  pub lengths : IsTrue (tells new) → lengths_asked (history new).deeds ≡ lengths_asked (history old).deeds
+  pub others : IsTrue (tells new) → others_of (history new).deeds ≡ others_of (history old).deeds
 
 -- at most one length was asked for, this one
 abbrev pub AsksOneLength : ℕ → History → History → Type 0
 AsksOneLength size old new = (lengths_asked new.deeds ≡ lengths_asked old.deeds) ⊎ (lengths_asked new.deeds ≡ size ∷ lengths_asked old.deeds)
+
+-- but for writes and syncs nothing was done, or that length was asked for
+abbrev pub MayAskOneLength : ℕ → History → History → Type 0
+MayAskOneLength size old new = (others_of new.deeds ≡ others_of old.deeds) ⊎ ((ok : Bool) × (others_of new.deeds ≡ sized size ok ∷ others_of old.deeds))
 
 -- the stages of a new volume, which gets this length on the way
 pub record MakesAll {D T E : Type 0} (tells : D → Bool) (history : D → History) (size : ℕ) (kept all : List ℕ) (stages : List Stage) (result : Result T E) (old new : D) : Type 0 where
   pub reaches : Reaches tells history (IsAtRest kept) (IsInStage stages) old new
   pub ok : OnOk result (Moves tells history (IsAtRest kept) (IsAtRest all) (IsInStage stages) old new)
   pub kept_ok : OnOk result (IsTrue (tells new) → bytes_of (history old) ≡ kept → IsAtRest all (history new))
-  pub lengths : IsTrue (tells new) → AsksOneLength size (history old) (history new)
+  pub others : IsTrue (tells new) → MayAskOneLength size (history old) (history new)
 
 -- ---- the old areas
 

@@ -18,4 +18,5 @@ pub use laws::{
     a_new_volume_has_the_empty_tree, a_new_volume_is_sound, the_blocks_by_the_tables,
     the_last_superblock_of_a_new_volume_is_active, the_volume_by_hand_is_a_new_one,
 };
+pub use making::make;
 pub use options::{Made, MakeFault, MakeOptions};

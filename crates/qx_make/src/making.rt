@@ -1,17 +1,23 @@
 //! The maker's way: the old areas are zeroed, the length is set, and the new volume is written from its blocks to its superblocks.
-ghost use Rattle.std.specs.Prelude.{◌≡◌, ◌-◌, ◌∷◌, [], ◌++◌, ◌⊎◌, ℕ, List, length, IfSome, OnOk, IsTrue};
+ghost use Rattle.std.specs.Prelude.{◌≡◌, ◌<◌, ◌≤◌, ◌^◌, ◌-◌, ◌∷◌, [], ◌++◌, ◌⊎◌, ℕ, List, length, IfOk, IfSome, OnOk, IsTrue, Err, Ok};
 ghost use Rattle.qx_outside.specs.Calls.{LeavesConsole, LeavesRest};
-ghost use Rattle.qx_outside.specs.Causes.{HasCause, StaysWhereTold};
-ghost use Rattle.qx_outside.specs.Trail.{lengths_asked};
-ghost use Rattle.qx_geom.specs.Layout.{IsGeometry, geometry_of};
-ghost use Rattle.qx_make.specs.Stages.{MakesAll, PerformsAll, made_bytes, make_stages, new_stages, old_places, old_stages, places_by, places_of_two, rest_stage, with_volume, zero_stages, zeroed};
+ghost use Rattle.qx_outside.specs.Causes.{HasCause, Rose};
+ghost use Rattle.qx_outside.specs.Trail.{bytes_of};
+ghost use Rattle.qx_geom.specs.Layout.{IsGeometry};
+ghost use Rattle.qx_geom.specs.declared.geometry.GeomFault.{GeomFault};
+ghost use Rattle.qx_geom.specs.declared.geometry.Geometry.{Geometry};
+ghost use Rattle.qx_make.specs.Stages.{AsksOneLength, MakesAll, Performs, PerformsAll, made_bytes, make_stages, new_stages, old_places, old_stages, places_by, places_of_two, rest_stage, supers_stage, with_volume, zero_stages, zeroed};
+ghost use Rattle.qx_make.specs.declared.options.MakeFault.TheVariants as faults;
+ghost use Rattle.qx_make.specs.Make.{HasMade, KeepsQuiet, MakesAtEachMoment, geometry_for, made_of};
 ghost use Rattle.qx_make.specs.Superblocks.{made_super};
 ghost use Rattle.qx_make.specs.NewVolume.{empty_root};
 
 use crate::areas::{ZEROS, put_into_areas, zero_area};
 use crate::blocks::NewVolume;
 use crate::halves::write_blocks;
-use qx_geom::{ABSENT, Root, Which};
+use crate::{Made, MakeFault, MakeOptions};
+use qx_fields::Order;
+use qx_geom::{ABSENT, Geometry, Root, Which};
 use qx_outside::{Dev, Failed};
 use qx_super::{Pick, Super, SuperView, active_view, areas, write_super};
 
@@ -88,5 +94,112 @@ fn zero_places<D: Dev>(host: &mut D, len: u64, one: u64, last: Option<u64>) -> R
     match last {
         None => zero_area(host, len, one),
         Some(last) => zero_both(host, len, one, last),
+    }
+}
+
+/// Zeroes the areas of the volume that the device has, whichever it is.
+fn clear_old<D: Dev>(host: &mut D) -> Result<(), Failed>
+    ensures stages { (old : List ℕ) → PerformsAll D.tells D.history old (zeroed old (old_places old)) (old_stages old) result host.old host.new }
+    ensures others { LeavesConsole D.attached D.con_faults host.old host.new }
+    ensures cause { HasCause (D.dev_faults host.old) (D.dev_faults host.new) result }
+{
+    let len = host.len()?;
+    let mut first = [0; 512];
+    let mut second = [0; 512];
+    let pick = areas(host, len, &mut first, &mut second)?;
+    let active = active_view(pick, &first, &second, len);
+    let (one, last) = places_to_zero(pick, active);
+    zero_places(host, len, one, last)
+}
+
+/// Puts both superblocks of the new volume, and has them kept.
+fn write_supers<D: Dev>(host: &mut D, volume: &NewVolume) -> Result<(), Failed>
+    requires geometry { IsGeometry volume.now.geometry }
+    requires len { IfSome (D.extent host.old) (λ n. volume.now.geometry.len4 ≤ n) }
+    ensures stage { (bytes : List ℕ) → volume.now.geometry.len4 ≤ length bytes → Performs D.tells D.history (supers_stage volume.now.geometry volume.now.order volume.now.moment bytes) result host.old host.new }
+    ensures others { LeavesRest D.extent D.attached D.dev_reads D.con_faults host.old host.new }
+    ensures cause { HasCause (D.dev_faults host.old) (D.dev_faults host.new) result }
+{
+    let mut first = [0; 512];
+    let mut second = [0; 512];
+    write_super(&superblock(volume, Which::First), &mut first);
+    write_super(&superblock(volume, Which::Second), &mut second);
+    put_into_areas(host, &volume.geometry, &first, &second)
+}
+
+/// Writes a new volume over a device of its length: its areas are zeroed, and its superblocks come last.
+fn write_volume<D: Dev>(host: &mut D, volume: &NewVolume) -> Result<(), Failed>
+    requires geometry { IsGeometry volume.now.geometry }
+    requires len { IfSome (D.extent host.old) (λ n. volume.now.geometry.len4 ≤ n) }
+    ensures stages { (bytes : List ℕ) → volume.now.geometry.len4 ≤ length bytes
+        → PerformsAll D.tells D.history bytes (with_volume volume.now.geometry volume.now.order volume.now.moment bytes) (new_stages volume.now.geometry volume.now.order volume.now.moment bytes) result host.old host.new }
+    ensures others { LeavesRest D.extent D.attached D.dev_reads D.con_faults host.old host.new }
+    ensures cause { HasCause (D.dev_faults host.old) (D.dev_faults host.new) result }
+{
+    put_into_areas(host, &volume.geometry, &ZEROS, &ZEROS)?;
+    write_blocks(host, volume)?;
+    write_supers(host, volume)
+}
+
+/// Replaces whatever the device holds by a new volume of `size` bytes.
+fn replace<D: Dev>(host: &mut D, size: u64, geometry: &Geometry, order: Order, moment: u32) -> Result<(), Failed>
+    requires geometry { IsGeometry geometry.now }
+    requires size { geometry.now.len4 ≤ size }
+    ensures now { moment < 2 ^ 32 }
+    ensures stages { (old : List ℕ) → MakesAll D.tells D.history size old (made_bytes geometry.now order moment size old) (make_stages geometry.now order moment size old) result host.old host.new }
+    ensures others { LeavesConsole D.attached D.con_faults host.old host.new }
+    ensures cause { HasCause (D.dev_faults host.old) (D.dev_faults host.new) result }
+{
+    let volume = NewVolume {
+        geometry: *geometry,
+        order,
+        moment,
+    };
+    clear_old(host)?;
+    host.set_len(size)?;
+    write_volume(host, &volume)
+}
+
+/// Makes an empty volume on a device, whatever the device held before. The device gets the length that is asked for.
+///
+/// The old areas are zeroed first, the active one last, and the new superblocks come last, so that wherever the power is cut the device gives no volume, or the old one, or the new one.
+/// That has premises (`IsReadyToMake`): nothing is pending, the old areas don't disagree, and the old bytes have the magic and a right checksum nowhere else.
+/// It takes no memory.
+pub fn make<D: Dev>(host: &mut D, options: &MakeOptions) -> Result<Made, MakeFault>
+    // Numbers that are those of no volume are refused before anything is asked of the device, and no others are.
+    ensures refused { (fault : GeomFault) → geometry_for options.now ≡ Err fault → (result ≡ Err (faults.Geom fault)) × (host.new ≡ host.old) }
+    ensures geom { (fault : GeomFault) → result ≡ Err (faults.Geom fault) → geometry_for options.now ≡ Err fault }
+
+    // What was made is what was asked for, byte for byte.
+    ensures made { (g : Geometry) → geometry_for options.now ≡ Ok g → IfOk result (λ made. made ≡ made_of g) }
+    ensures volume { (g : Geometry) → geometry_for options.now ≡ Ok g → OnOk result (IsTrue (D.tells host.new) → HasMade options.now g (bytes_of (D.history host.old)) (D.history host.new)) }
+
+    // Wherever the power is cut.
+    ensures any_moment { MakesAtEachMoment D.tells D.history options.now host.old host.new }
+
+    ensures lengths { IsTrue (D.tells host.new) → AsksOneLength options.now.size (D.history host.old) (D.history host.new) }
+    ensures console { IsTrue (D.tells host.new) → KeepsQuiet (D.history host.old) (D.history host.new) }
+    ensures others { LeavesConsole D.attached D.con_faults host.old host.new }
+    ensures later { D.dev_faults host.old ≤ D.dev_faults host.new }
+    ensures device { result ≡ Err faults.Device → Rose (D.dev_faults host.old) (D.dev_faults host.new) }
+{
+    let geometry = match Geometry::new(options.size, options.blocksize, options.inodes) {
+        Err(fault) => return Err(MakeFault::Geom(fault)),
+        Ok(geometry) => geometry,
+    };
+    match replace(
+        host,
+        options.size,
+        &geometry,
+        options.order,
+        options.moment,
+    ) {
+        Err(Failed) => Err(MakeFault::Device),
+        Ok(()) => Ok(Made {
+            blocks: geometry.num_blocks,
+            user: geometry.user(),
+            free: geometry.user() - 1,
+            inodes: geometry.num_inodes,
+        }),
     }
 }

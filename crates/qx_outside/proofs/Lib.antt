@@ -4,3 +4,4 @@ pub mod Throughout
 pub mod ReadCounts
 pub mod PuttingMoments
 pub mod ToldLengths
+pub mod OtherDeeds

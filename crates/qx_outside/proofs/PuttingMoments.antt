@@ -10,7 +10,7 @@ use Rattle.qx_bytes.proofs.Puts.{byte_put_apart, length_put, range_range}
 use Rattle.qx_outside.specs.Trail.{History, Deed, took, gave, wrote, synced, sized, told_moment, after, resized, device_bytes, bytes_of}
 use Rattle.qx_outside.specs.Images.{IsPending, IsImage, IsAsked, kept_after}
 use Rattle.qx_outside.specs.Calls.{Did, Writes, Syncs}
-use Rattle.qx_outside.specs.Moments.{HasLengths, Keeps, Moves, Reaches}
+use Rattle.qx_outside.specs.Moments.{HasOthers, Keeps, Moves, Reaches}
 use Rattle.qx_outside.specs.Puts.{Put, IsApartFrom, IsPartOf, ArePartsOf, IsPutting, HasPut, IsAtRest, PutsOrRests}
 use Rattle.qx_outside.proofs.Throughout.{moves_did, reaches_does, IsWrite, IsSync, does_writes, does_syncs, keeps_does}
 
@@ -212,17 +212,17 @@ module _ {D : Type 0} (tells : D → Bool) (history : D → History) (X : List �
       by_answer h true p = inr (IsAtRest-synced X puts h all p.now_is)
       by_answer h false p = inl (IsPutting-failed X puts h p.putting)
 
--- ---- lengths
+-- ---- the other deeds
 
-module _ {D : Type 0} (tells : D → Bool) (history : D → History) (lengths : List ℕ) where
-  -- a write asks for none
-  pub lengths_write : (at : ℕ) (asked : List ℕ) (a b : D) → Writes tells history at asked a b → Keeps tells history (HasLengths lengths) a b
-  lengths_write at asked a b writes =
-      keeps_does tells history (HasLengths lengths) (IsWrite tells history at asked)
-      (λ h deed is has. subst (λ (d : Deed). HasLengths lengths (after d h)) (sym is.1.2) has) a b (does_writes tells history at asked a b writes)
+module _ {D : Type 0} (tells : D → Bool) (history : D → History) (others : List Deed) where
+  -- a write adds none
+  pub others_write : (at : ℕ) (asked : List ℕ) (a b : D) → Writes tells history at asked a b → Keeps tells history (HasOthers others) a b
+  others_write at asked a b writes =
+      keeps_does tells history (HasOthers others) (IsWrite tells history at asked)
+      (λ h deed is has. subst (λ (d : Deed). HasOthers others (after d h)) (sym is.1.2) has) a b (does_writes tells history at asked a b writes)
 
   -- nor does a sync
-  pub lengths_sync : (a b : D) → Syncs tells history a b → Keeps tells history (HasLengths lengths) a b
-  lengths_sync a b syncs =
-      keeps_does tells history (HasLengths lengths) (IsSync tells history)
-      (λ h deed is has. subst (λ (d : Deed). HasLengths lengths (after d h)) (sym is.1) has) a b (does_syncs tells history a b syncs)
+  pub others_sync : (a b : D) → Syncs tells history a b → Keeps tells history (HasOthers others) a b
+  others_sync a b syncs =
+      keeps_does tells history (HasOthers others) (IsSync tells history)
+      (λ h deed is has. subst (λ (d : Deed). HasOthers others (after d h)) (sym is.1) has) a b (does_syncs tells history a b syncs)

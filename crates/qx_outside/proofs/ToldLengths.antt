@@ -19,3 +19,9 @@ pub told_stays : (a b c : Option ℕ) → StaysWhereTold a b → StaysWhereTold 
 told_stays a b None first second = record { same = tt }
 told_stays a None (Some n) first second = absurd (cc second.same)
 told_stays a (Some m) (Some n) first second = record { same = (let same : Some m ≡ Some n = second.same in subst (λ (o : Option ℕ). a ≡ o) same first.same) }
+
+-- a length that was answered, and stays, is the device's
+pub answered_is : (before now : Option ℕ) (n len : ℕ) → StaysWhereTold before now → now ≡ Some n → IfSome before (λ m. len ≡ m) → len ≡ n
+answered_is before None n len stays told answered = absurd (cc told)
+answered_is None (Some k) n len stays told answered = absurd (cc stays.same)
+answered_is (Some m) (Some k) n len stays told answered = cc (stays.same, told, answered)

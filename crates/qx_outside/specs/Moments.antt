@@ -1,6 +1,6 @@
 -- What holds at each moment of a run: of the history before it, of each one on the way, and of the one after it.
 use Rattle.std.specs.Prelude.{ℕ, Bool, IsTrue, ◌≡◌, List, [], ◌∷◌, ◌++◌}
-use Rattle.qx_outside.specs.Trail.{History, Deed, lengths_asked}
+use Rattle.qx_outside.specs.Trail.{History, Deed, others_of}
 
 -- the history after these deeds, the newest first
 abbrev pub grown : History → List Deed → History
@@ -17,9 +17,9 @@ pub record HoldsThroughout (P : History → Type 0) (old new : History) : Type 0
   pub grew : new ≡ grown old since
   pub along : HoldsAlong P old since
 
--- these lengths were asked for, the newest first
-abbrev pub HasLengths : List ℕ → History → Type 0
-HasLengths lengths h = lengths_asked h.deeds ≡ lengths
+-- but for writes and syncs these are its deeds, the newest first
+abbrev pub HasOthers : List Deed → History → Type 0
+HasOthers others h = others_of h.deeds ≡ others
 
 module _ {D : Type 0} (tells : D → Bool) (history : D → History) where
   -- where P holds before, it holds at each moment

@@ -88,6 +88,16 @@ lengths_asked (gave given ∷ before) = lengths_asked before
 lengths_asked (synced ok ∷ before) = lengths_asked before
 lengths_asked (told_moment moment ∷ before) = lengths_asked before
 
+-- the deeds but for writes and syncs, the newest first
+abbrev pub others_of : List Deed → List Deed
+others_of [] = []
+others_of (sized len ok ∷ before) = sized len ok ∷ others_of before
+others_of (wrote at asked left ok ∷ before) = others_of before
+others_of (took taken ∷ before) = took taken ∷ others_of before
+others_of (gave given ∷ before) = gave given ∷ others_of before
+others_of (synced ok ∷ before) = others_of before
+others_of (told_moment moment ∷ before) = told_moment moment ∷ others_of before
+
 -- ---- the console's bytes
 
 -- the input that an event took

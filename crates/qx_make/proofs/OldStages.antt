@@ -1,0 +1,92 @@
+-- The stages that zero the old areas, behind calls that only read.
+use Rattle.std.proofs.Common.{◌≡◌, ℕ, ◌≤◌, Bool, Result, Ok, Err, IsErr, OnOk, Option, List, [], ◌∷◌, ◌++◌, length, replicate, refl, ap, sym, ◌∙◌, subst, arith}
+use Rattle.std.specs.Prelude.{Contains, IsTrue}
+use Rattle.std.proofs.lemmas.List.{length-replicate}
+use Rattle.qx_outside.specs.Calls.{Idles}
+use Rattle.qx_outside.specs.Moments.{HoldsThroughout, Moves, Reaches}
+use Rattle.qx_outside.specs.Puts.{IsAtRest}
+use Rattle.qx_outside.specs.Trail.{History, bytes_of, others_of}
+use Rattle.qx_outside.proofs.Throughout.{throughout_here}
+use Rattle.qx_super.specs.declared.choice.Pick.{Pick}
+use Rattle.qx_super.specs.Superblock.{Superblock}
+use Rattle.qx_super.specs.Active.{AreRead, active_area, active_super, first_read, first_super, pick_of, second_read, second_super, super_of_pick}
+use Rattle.qx_super.proofs.ActiveAreas.{first_read-is, pick_of-read_at, second_read-is}
+use Rattle.qx_make.specs.Stages.{IsInStage, PerformsAll, Stage, old_places, old_stages, places_by, places_of_two, rest_stage, zero_stage, zero_stages, zeroed}
+use Rattle.qx_make.proofs.StagesInOrder.{on_err, rest_in}
+
+-- the stage with which they begin
+begins : (old : List ℕ) (places : List ℕ) → (first : Stage) × Contains (zero_stages old places ++ rest_stage (zeroed old places) ∷ []) first × (first.kept ≡ old)
+begins old [] = (rest_stage old, (0, omega arith, refl), refl)
+begins old (place ∷ places) = (zero_stage old place, (0, omega arith, refl), refl)
+
+-- at rest with these bytes is one of their stages
+pub old_rest_in : (old : List ℕ) (h : History) → IsAtRest old h → IsInStage (old_stages old) h
+old_rest_in old h rest = let first = begins old (old_places old) in rest_in (old_stages old) first.0 old h first.1 first.2 rest
+
+-- the places of what was read are those of the device's bytes
+pub old_places-read : (img first second : List ℕ) (len : ℕ) (pick : Pick) (active : Option Superblock) → len ≡ length img → AreRead img first second → pick ≡ pick_of (first_read first len) (second_read first second len)
+    → active ≡ super_of_pick pick (first_read first len) (second_read first second len) → places_by pick active ≡ old_places img
+unfolding active_super
+old_places-read img first second len pick active long read picked is =
+    let area : pick ≡ active_area img = picked ∙ pick_of-read_at img first second len long read in
+    let firsts : first_read first len ≡ first_super img = ap (λ (n : ℕ). first_read first n) long ∙ first_read-is img first second read in
+    let seconds : second_read first second len ≡ second_super img = ap (λ (n : ℕ). second_read first second n) long ∙ second_read-is img first second read in
+    let by_area : pick ≡ pick_of (first_super img) (second_super img) = picked ∙ ap (λ (s : Option Superblock). pick_of s (second_read first second len)) firsts ∙ ap (λ (s : Option Superblock). pick_of (first_super img) s) seconds in
+    let super : active ≡ active_super img =
+        is ∙ ap (λ (p : Pick). super_of_pick p (first_read first len) (second_read first second len)) by_area
+        ∙ ap (λ (s : Option Superblock). super_of_pick (pick_of (first_super img) (second_super img)) s (second_read first second len)) firsts
+        ∙ ap (λ (s : Option Superblock). super_of_pick (pick_of (first_super img) (second_super img)) (first_super img) s) seconds in
+    ap (λ (p : Pick). places_by p active) area ∙ ap (λ (s : Option Superblock). places_by (active_area img) s) super
+
+module _ {D : Type 0} (tells : D → Bool) (history : D → History) {T E : Type 0} where
+  -- a read that fails
+  pub reading_fails : (old : List ℕ) (result : Result T E) (a b : D) → IsErr result → Idles tells history a b → PerformsAll tells history old (zeroed old (old_places old)) (old_stages old) result a b
+  reading_fails old result a b err idles = record {
+    reaches = record {
+      before = idles.before;
+      step = λ told rest. subst (λ (h : History). HoldsThroughout (IsInStage (old_stages old)) (history a) h) (sym (idles.step told)) (throughout_here (IsInStage (old_stages old)) (history a) (old_rest_in old (history a) rest));
+    };
+    ok = on_err result _ err;
+    kept_ok = on_err result _ err;
+    others = λ told. ap (λ (h : History). others_of h.deeds) (idles.step told);
+  }
+
+  -- stages that are known once the device's bytes are, behind calls that read them
+  module _ (kept all : List ℕ) (stages : List Stage) (a b c : D) (idles : Idles tells history a b) (before : IsTrue (tells c) → IsTrue (tells b)) where
+    pub read_reaches : (result : Result T E) → (IsTrue (tells b) → bytes_of (history b) ≡ kept → PerformsAll tells history kept all stages result b c) → Reaches tells history (IsAtRest kept) (IsInStage stages) a c
+    read_reaches result given = record {
+      before = λ told. idles.before (before told);
+      step = λ told rest.
+          let same : history b ≡ history a = idles.step (before told) in
+          let there : IsAtRest kept (history b) = subst (λ (h : History). IsAtRest kept h) (sym same) rest in
+          subst (λ (h : History). HoldsThroughout (IsInStage stages) h (history c)) same ((given (before told) there.bytes_are).reaches.step told there);
+    }
+
+    pub read_ok : (result : Result T E) → (IsTrue (tells b) → bytes_of (history b) ≡ kept → PerformsAll tells history kept all stages result b c) → OnOk result (Moves tells history (IsAtRest kept) (IsAtRest all) (IsInStage stages) a c)
+    read_ok (Err e) given = tt
+    read_ok (Ok x) given = record {
+      before = λ told. idles.before (before told);
+      step = λ told rest.
+          let same : history b ≡ history a = idles.step (before told) in
+          let there : IsAtRest kept (history b) = subst (λ (h : History). IsAtRest kept h) (sym same) rest in
+          subst (λ (h : History). HoldsThroughout (IsInStage stages) h (history c) × IsAtRest all (history c)) same ((given (before told) there.bytes_are).ok.step told there);
+    }
+
+    pub read_kept : (result : Result T E) → (IsTrue (tells b) → bytes_of (history b) ≡ kept → PerformsAll tells history kept all stages result b c) → OnOk result (IsTrue (tells c) → bytes_of (history a) ≡ kept → IsAtRest all (history c))
+    read_kept (Err e) given = tt
+    read_kept (Ok x) given = λ told is.
+        let there : bytes_of (history b) ≡ kept = ap bytes_of (idles.step (before told)) ∙ is in
+        (given (before told) there).kept_ok told there
+
+    pub then_stages : (result : Result T E) → (IsTrue (tells b) → bytes_of (history b) ≡ kept → PerformsAll tells history kept all stages result b c)
+        → (IsTrue (tells c) → others_of (history c).deeds ≡ others_of (history b).deeds) → PerformsAll tells history kept all stages result a c
+    then_stages result given others = record {
+      reaches = read_reaches result given;
+      ok = read_ok result given;
+      kept_ok = read_kept result given;
+      others = λ told. others told ∙ ap (λ (h : History). others_of h.deeds) (idles.step (before told));
+    }
+
+-- one read after another
+pub idles_then : {D : Type 0} (tells : D → Bool) (history : D → History) (a b c : D) → Idles tells history a b → Idles tells history b c → Idles tells history a c
+idles_then tells history a b c first second = record { before = λ told. first.before (second.before told); step = λ told. second.step told ∙ first.step (second.before told) }

@@ -1,0 +1,49 @@
+-- The stages of a new volume, one after another.
+use Rattle.std.proofs.Common.{◌≡◌, ℕ, ◌≤◌, Bool, Result, Ok, IsErr, List, [], ◌∷◌, length, replicate, refl, arith}
+use Rattle.qx_fields.specs.declared.order.Order.{Order}
+use Rattle.qx_geom.specs.declared.geometry.Geometry.{Geometry}
+use Rattle.qx_geom.specs.Layout.{IsGeometry}
+use Rattle.qx_outside.specs.Trail.{History}
+use Rattle.qx_make.specs.Stages.{Performs, PerformsAll, Stage, blocks_stage, clear_stage, new_stages, rest_stage, supers_stage, with_areas, with_blocks, with_volume}
+use Rattle.qx_make.proofs.StagesInOrder.{perform_fails, perform_one, perform_then}
+
+module _ (g : Geometry) (order : Order) (moment : ℕ) (bytes : List ℕ) {D : Type 0} (tells : D → Bool) (history : D → History) where
+  -- the bytes on the way
+  abbrev cleared : List ℕ
+  cleared = with_areas g bytes
+
+  abbrev filled : List ℕ
+  filled = with_blocks g order moment cleared
+
+  abbrev all : List ℕ
+  all = with_volume g order moment bytes
+
+  abbrev stages : List Stage
+  stages = new_stages g order moment bytes
+
+  module _ {T E : Type 0} where
+    -- each stage among them
+    cleared_all : (result : Result T E) (a b : D) → Performs tells history (clear_stage g bytes) result a b → PerformsAll tells history bytes cleared stages result a b
+    cleared_all = perform_one tells history stages (clear_stage g bytes) (blocks_stage g order moment cleared) (0, omega arith, refl) (1, omega arith, refl) refl
+
+    filled_all : (result : Result T E) (a b : D) → Performs tells history (blocks_stage g order moment cleared) result a b → PerformsAll tells history cleared filled stages result a b
+    filled_all = perform_one tells history stages (blocks_stage g order moment cleared) (supers_stage g order moment filled) (1, omega arith, refl) (2, omega arith, refl) refl
+
+    supers_all : (result : Result T E) (a b : D) → Performs tells history (supers_stage g order moment filled) result a b → PerformsAll tells history filled all stages result a b
+    supers_all = perform_one tells history stages (supers_stage g order moment filled) (rest_stage all) (2, omega arith, refl) (3, omega arith, refl) refl
+
+    -- the areas fail
+    pub clearing_fails : (inner result : Result T E) (a b : D) → IsErr result → Performs tells history (clear_stage g bytes) inner a b → PerformsAll tells history bytes all stages result a b
+    clearing_fails inner result a b err p = perform_fails tells history stages bytes cleared all inner result a b err (cleared_all inner a b p)
+
+    -- the blocks fail
+    pub filling_fails : (x : T) (inner result : Result T E) (a b c : D) → IsErr result → Performs {E = E} tells history (clear_stage g bytes) (Ok x) a b → Performs tells history (blocks_stage g order moment cleared) inner b c
+        → PerformsAll tells history bytes all stages result a c
+    filling_fails x inner result a b c err p q =
+        perform_fails tells history stages bytes filled all inner result a c err (perform_then tells history stages bytes cleared filled x inner a b c (cleared_all (Ok x) a b p) (filled_all inner b c q))
+
+    -- the superblocks end it
+    pub supers_end : (x y : T) (result : Result T E) (a b c d : D) → Performs {E = E} tells history (clear_stage g bytes) (Ok x) a b → Performs {E = E} tells history (blocks_stage g order moment cleared) (Ok y) b c
+        → Performs tells history (supers_stage g order moment filled) result c d → PerformsAll tells history bytes all stages result a d
+    supers_end x y result a b c d p q r =
+        perform_then tells history stages bytes filled all y result a c d (perform_then tells history stages bytes cleared filled x (Ok y) a b c (cleared_all (Ok x) a b p) (filled_all (Ok y) b c q)) (supers_all result c d r)
