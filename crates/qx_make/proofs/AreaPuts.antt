@@ -1,5 +1,5 @@
 -- Bytes are put into both areas of a volume: what each call leaves.
-use Rattle.std.proofs.Common.{◌≡◌, ℕ, ◌+◌, ◌≤◌, Bool, true, Result, Ok, IsErr, Option, List, [], ◌∷◌, length, refl, ◌∙◌, arith}
+use Rattle.std.proofs.Common.{◌≡◌, ℕ, ◌+◌, ◌≤◌, Bool, true, Result, Ok, IsErr, Option, List, length, refl, ◌∙◌, arith}
 use Rattle.std.specs.Prelude.{IfSome}
 use Rattle.qx_bytes.proofs.Puts.{length_put}
 use Rattle.qx_geom.specs.declared.area.Which.TheVariants.{First, Second}
@@ -9,7 +9,7 @@ use Rattle.qx_geom.proofs.SystemBlocks.{area_place-second}
 use Rattle.qx_geom.proofs.VolumeNumbers.{IsGeometry-keeps}
 use Rattle.qx_outside.specs.Calls.{Did, Syncs, Writes}
 use Rattle.qx_outside.specs.Causes.{StaysWhereTold}
-use Rattle.qx_outside.specs.Puts.{IsPartOf, Put}
+use Rattle.qx_outside.specs.Puts.{IsPartOf}
 use Rattle.qx_outside.specs.Ranges.{put_at}
 use Rattle.qx_outside.specs.Trail.{History, wrote, synced}
 use Rattle.qx_outside.proofs.PuttingMoments.{IsPartOf-whole}

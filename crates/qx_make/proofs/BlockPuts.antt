@@ -1,6 +1,6 @@
 -- The blocks of a new volume are put piece after piece: what each call leaves.
-use Rattle.std.proofs.Common.{◌≡◌, ℕ, ◌+◌, ◌-◌, ◌*◌, ◌≤◌, ◌<◌, Bool, true, Result, Ok, IsErr, OnOk, Option, List, [], ◌∷◌, ◌++◌, length, refl, ap, sym, ◌∙◌, subst, arith}
-use Rattle.std.specs.Prelude.{IfSome, IsTrue}
+use Rattle.std.proofs.Common.{◌≡◌, ℕ, ◌+◌, ◌*◌, ◌≤◌, Bool, true, Result, Ok, IsErr, Option, List, ◌++◌, length, refl, ap, sym, ◌∙◌, subst, arith}
+use Rattle.std.specs.Prelude.{IfSome}
 use Rattle.std.specs.List.{flat_map, range_with_len}
 use Rattle.std.proofs.Math.Nat.{mul-le-mul_right}
 use Rattle.qx_bytes.proofs.Puts.{length_put}
@@ -9,13 +9,13 @@ use Rattle.qx_geom.specs.declared.geometry.Geometry.{Geometry}
 use Rattle.qx_geom.specs.Layout.{IsGeometry}
 use Rattle.qx_geom.proofs.SystemBlocks.{area_place-second}
 use Rattle.qx_geom.proofs.VolumeNumbers.{IsGeometry-keeps}
-use Rattle.qx_outside.specs.Calls.{Did, LeavesRest, Syncs, Writes}
-use Rattle.qx_outside.specs.Puts.{HasPut, IsAtRest, IsPartOf, Put}
+use Rattle.qx_outside.specs.Calls.{Did, Syncs, Writes}
+use Rattle.qx_outside.specs.Puts.{HasPut, IsAtRest, IsPartOf}
 use Rattle.qx_outside.specs.Ranges.{put_at}
 use Rattle.qx_outside.specs.Trail.{History, wrote, synced}
 use Rattle.qx_outside.proofs.PuttingMoments.{IsPartOf-taken, put_none}
 use Rattle.qx_outside.proofs.Throughout.{reaches_moves}
-use Rattle.qx_outside.proofs.ToldLengths.{told_after, told_weaker}
+use Rattle.qx_outside.proofs.ToldLengths.{told_weaker}
 use Rattle.qx_make.specs.Blocks.{made_block_bytes, top_block}
 use Rattle.qx_make.specs.Stages.{Passes, Performs, PutsAll, Stage, after_stage, all_block_bytes, blocks_stage}
 use Rattle.qx_make.proofs.MadeBlockLengths.{length-made_block}

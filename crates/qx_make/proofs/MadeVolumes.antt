@@ -1,8 +1,7 @@
 -- What the maker's stages leave for its options: at each moment, and at the end.
-use Rattle.std.proofs.Common.{◌≡◌, ℕ, ◌<◌, ◌≤◌, ◌^◌, inl, inr, Bool, Result, Ok, OnOk, List, [], ◌∷◌, length, Some, refl, ap, sym, ◌∙◌, subst, arith, append-nil}
-use Rattle.std.specs.Prelude.{IsTrue}
+use Rattle.std.proofs.Common.{◌≡◌, ℕ, ◌<◌, ◌≤◌, ◌^◌, inl, inr, Bool, Result, Ok, List, [], ◌∷◌, length, Some, refl, ap, sym, ◌∙◌, subst, arith, append-nil}
 use Rattle.qx_geom.specs.declared.area.Which.{Which}
-use Rattle.qx_geom.specs.declared.area.Which.TheVariants.{First, Second}
+use Rattle.qx_geom.specs.declared.area.Which.TheVariants.{Second}
 use Rattle.qx_geom.specs.declared.geometry.Geometry.{Geometry}
 use Rattle.qx_geom.specs.Layout.{IsGeometry, geometry_of, whole_length}
 use Rattle.qx_geom.proofs.VolumeNumbers.{IsGeometry-of, geometry_of-numbers}
@@ -10,7 +9,7 @@ use Rattle.qx_model.specs.EmptyTree.{empty_tree}
 use Rattle.qx_model.specs.Tree.{Tree}
 use Rattle.qx_nodes.specs.BlockMap.{BlockMap}
 use Rattle.qx_outside.specs.Puts.{IsAtRest}
-use Rattle.qx_outside.specs.Trail.{Deed, History, bytes_of, events_of, input_of, lengths_asked, others_of, output_of, resized, sized}
+use Rattle.qx_outside.specs.Trail.{Deed, History, bytes_of, events_of, input_of, lengths_asked, others_of, output_of, resized}
 use Rattle.qx_outside.proofs.OtherDeeds.{input-others, lengths-others, output-others}
 use Rattle.qx_outside.proofs.PuttingMoments.{IsPutting-rest}
 use Rattle.qx_outside.proofs.Throughout.{throughout_here, throughout_map}
@@ -21,12 +20,11 @@ use Rattle.qx_super.specs.Superblock.{Superblock}
 use Rattle.qx_super.specs.Written.{superblock_written}
 use Rattle.qx_view.specs.Images.{image_blocks, main_roots}
 use Rattle.qx_view.specs.Reading.{IsTreeOf}
-use Rattle.qx_view.specs.Sound.{IsSound}
 use Rattle.qx_make.specs.declared.options.MakeOptions.{MakeOptions}
 use Rattle.qx_make.specs.Blocks.{AreMade}
 use Rattle.qx_make.specs.Cut.{IsLeftByMaker, IsReadyToMake, LeavesByMaker, nothing, old_volume, places_of}
 use Rattle.qx_make.specs.Make.{HasMade, KeepsQuiet, MakesAtEachMoment, geometry_for, tree_for}
-use Rattle.qx_make.specs.NewVolume.{HasNewVolume, made_superblock, new_roots}
+use Rattle.qx_make.specs.NewVolume.{made_superblock, new_roots}
 use Rattle.qx_make.specs.Stages.{AsksOneLength, IsInStage, MakesAll, MayAskOneLength, made_bytes, make_stages, old_places, rest_stage, zeroed}
 use Rattle.qx_make.specs.Superblocks.{made_super}
 use Rattle.qx_make.proofs.BytesAt.{length-resized}

@@ -1,7 +1,6 @@
 -- The stages that zero the old areas, behind calls that only read.
-use Rattle.std.proofs.Common.{◌≡◌, ℕ, ◌≤◌, Bool, Result, Ok, Err, IsErr, OnOk, Option, List, [], ◌∷◌, ◌++◌, length, replicate, refl, ap, sym, ◌∙◌, subst, arith}
+use Rattle.std.proofs.Common.{◌≡◌, ℕ, Bool, Result, Ok, Err, IsErr, OnOk, Option, List, [], ◌∷◌, ◌++◌, length, refl, ap, sym, ◌∙◌, subst, arith}
 use Rattle.std.specs.Prelude.{Contains, IsTrue}
-use Rattle.std.proofs.lemmas.List.{length-replicate}
 use Rattle.qx_outside.specs.Calls.{Idles}
 use Rattle.qx_outside.specs.Moments.{HoldsThroughout, Moves, Reaches}
 use Rattle.qx_outside.specs.Puts.{IsAtRest}
@@ -11,7 +10,7 @@ use Rattle.qx_super.specs.declared.choice.Pick.{Pick}
 use Rattle.qx_super.specs.Superblock.{Superblock}
 use Rattle.qx_super.specs.Active.{AreRead, active_area, active_super, first_read, first_super, pick_of, second_read, second_super, super_of_pick}
 use Rattle.qx_super.proofs.ActiveAreas.{first_read-is, pick_of-read_at, second_read-is}
-use Rattle.qx_make.specs.Stages.{IsInStage, PerformsAll, Stage, old_places, old_stages, places_by, places_of_two, rest_stage, zero_stage, zero_stages, zeroed}
+use Rattle.qx_make.specs.Stages.{IsInStage, PerformsAll, Stage, old_places, old_stages, places_by, rest_stage, zero_stage, zero_stages, zeroed}
 use Rattle.qx_make.proofs.StagesInOrder.{on_err, rest_in}
 
 -- the stage with which they begin
@@ -33,9 +32,9 @@ old_places-read img first second len pick active long read picked is =
     let seconds : second_read first second len ≡ second_super img = ap (λ (n : ℕ). second_read first second n) long ∙ second_read-is img first second read in
     let by_area : pick ≡ pick_of (first_super img) (second_super img) = picked ∙ ap (λ (s : Option Superblock). pick_of s (second_read first second len)) firsts ∙ ap (λ (s : Option Superblock). pick_of (first_super img) s) seconds in
     let super : active ≡ active_super img =
-        is ∙ ap (λ (p : Pick). super_of_pick p (first_read first len) (second_read first second len)) by_area
-        ∙ ap (λ (s : Option Superblock). super_of_pick (pick_of (first_super img) (second_super img)) s (second_read first second len)) firsts
-        ∙ ap (λ (s : Option Superblock). super_of_pick (pick_of (first_super img) (second_super img)) (first_super img) s) seconds in
+    is ∙ ap (λ (p : Pick). super_of_pick p (first_read first len) (second_read first second len)) by_area
+    ∙ ap (λ (s : Option Superblock). super_of_pick (pick_of (first_super img) (second_super img)) s (second_read first second len)) firsts
+    ∙ ap (λ (s : Option Superblock). super_of_pick (pick_of (first_super img) (second_super img)) (first_super img) s) seconds in
     ap (λ (p : Pick). places_by p active) area ∙ ap (λ (s : Option Superblock). places_by (active_area img) s) super
 
 module _ {D : Type 0} (tells : D → Bool) (history : D → History) {T E : Type 0} where

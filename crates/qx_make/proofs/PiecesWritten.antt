@@ -1,9 +1,8 @@
 -- Blocks that are put one piece after another: what stands there after each.
-use Rattle.std.proofs.Common.{◌≡◌, ℕ, zero, suc, ◌+◌, ◌-◌, ◌*◌, ◌≤◌, ◌<◌, List, [], ◌∷◌, ◌++◌, length, take, drop, refl, ap, sym, ◌∙◌, arith, append_assoc, append-nil, length-append, length-drop, length-take}
-use Rattle.std.specs.List.{flat_map, range_with_len, replace_range}
+use Rattle.std.proofs.Common.{◌≡◌, ℕ, zero, suc, ◌+◌, ◌-◌, ◌*◌, ◌≤◌, List, ◌++◌, length, take, drop, refl, ap, sym, ◌∙◌, arith, append_assoc, length-append}
+use Rattle.std.specs.List.{flat_map, range_with_len}
 use Rattle.std.specs.Prelude.{slice_range}
-use Rattle.std.proofs.lemmas.List.{drop-append-le, drop-drop, drop_at, length-take-le, take_at}
-use Rattle.std.proofs.Math.Seq.{drop-append-add}
+use Rattle.std.proofs.lemmas.List.{drop-drop, drop_at, length-take-le, take_at}
 use Rattle.qx_outside.specs.Ranges.{put_at}
 use Rattle.qx_make.proofs.PartsInOrder.{length-parts, take_put}
 
@@ -55,4 +54,3 @@ parts_within f size each n m all within =
     sym (ap (λ (l : List ℕ). slice_range l (n * size) (n * size + length here)) whole
     ∙ ap (λ (l : List ℕ). take (n * size + length here - n * size) l) (drop_at before (here ++ behind) (n * size) count)
     ∙ take_at here behind (n * size + length here - n * size) (omega arith))
-

@@ -1,7 +1,6 @@
 -- How device calls carry a stage on, from rest to rest.
-use Rattle.std.proofs.Common.{◌≡◌, ℕ, ◌+◌, ◌≤◌, Bool, true, Result, IsErr, OnOk, List, [], ◌∷◌, length, Ok, Err, refl, ap, sym, subst, ◌∙◌}
+use Rattle.std.proofs.Common.{◌≡◌, ℕ, ◌+◌, ◌≤◌, Bool, true, Result, IsErr, OnOk, List, length, Ok, Err, refl, ap, sym, subst, ◌∙◌}
 use Rattle.std.specs.Prelude.{IsTrue}
-
 use Rattle.qx_outside.specs.Ranges.{put_at}
 use Rattle.qx_outside.specs.Calls.{Did, Syncs, Writes}
 use Rattle.qx_outside.specs.Moments.{HasOthers, Keeps, Moves}

@@ -1,17 +1,12 @@
 -- Stages one after another: each begins where the one before it rests.
-use Rattle.std.proofs.Common.{◌≡◌, ℕ, ◌+◌, ◌-◌, ◌≤◌, ◌<◌, ◌⊎◌, inl, inr, Bool, Result, Ok, Err, IsErr, OnOk, List, [], ◌∷◌, ◌++◌, length, min, replicate, refl, ap, sym, ◌∙◌, subst, arith}
-use Rattle.std.specs.Prelude.{Contains, IsTrue}
-use Rattle.std.proofs.lemmas.Bool.{cases_lt}
-use Rattle.std.proofs.lemmas.List.{length-replicate}
-use Rattle.qx_outside.specs.Calls.{Idles}
+use Rattle.std.proofs.Common.{◌≡◌, ℕ, inl, inr, Bool, Result, Ok, Err, IsErr, OnOk, List, sym, ◌∙◌, subst}
+use Rattle.std.specs.Prelude.{Contains}
 use Rattle.qx_outside.specs.Moments.{Moves, Reaches}
-use Rattle.qx_outside.specs.Puts.{IsAtRest, IsPutting}
-use Rattle.qx_outside.specs.Ranges.{put_at}
-use Rattle.qx_outside.specs.Trail.{History, bytes_of, others_of}
-use Rattle.qx_outside.proofs.PuttingMoments.{IsPutting-rest, put_none}
-use Rattle.qx_outside.proofs.Throughout.{reaches_then, moves_then, throughout_here, throughout_map}
-use Rattle.qx_bytes.proofs.Puts.{length_put}
-use Rattle.qx_make.specs.Stages.{IsInStage, Passes, Performs, PerformsAll, Stage, after_stage, rest_stage, zero_stage}
+use Rattle.qx_outside.specs.Puts.{IsAtRest}
+use Rattle.qx_outside.specs.Trail.{History}
+use Rattle.qx_outside.proofs.PuttingMoments.{IsPutting-rest}
+use Rattle.qx_outside.proofs.Throughout.{reaches_then, moves_then, throughout_map}
+use Rattle.qx_make.specs.Stages.{IsInStage, Passes, Performs, PerformsAll, Stage, after_stage}
 
 -- what is said of an Ok follows from another thing that is said of it
 pub on_ok : {T E : Type 0} (result : Result T E) (P Q : Type 0) → (P → Q) → OnOk result P → OnOk result Q
@@ -22,18 +17,6 @@ on_ok (Err e) P Q f p = tt
 pub on_err : {T E : Type 0} (result : Result T E) (P : Type 0) → IsErr result → OnOk result P
 on_err (Ok x) P err = absurd (cc err)
 on_err (Err e) P err = tt
-
--- an area that is zeroed leaves the length
-pub length-zeroed : (bytes : List ℕ) (place : ℕ) → length (after_stage (zero_stage bytes place)) ≡ length bytes
-length-zeroed bytes place = by_place (cases_lt place (length bytes))
-  where
-    by_place : (place < length bytes) ⊎ (length bytes ≤ place) → length (after_stage (zero_stage bytes place)) ≡ length bytes
-    by_place (inl within) =
-        let count = length-replicate {A = ℕ} (min 4096 (length bytes - place)) 0 in
-        length_put bytes (replicate (min 4096 (length bytes - place)) 0) place (length (replicate (min 4096 (length bytes - place)) 0)) refl (omega arith)
-    by_place (inr past) =
-        let none : min 4096 (length bytes - place) ≡ 0 = omega arith in
-        ap (λ (n : ℕ). length (put_at bytes place (replicate n 0))) none ∙ ap length (put_none bytes place)
 
 -- at rest is one of the stages
 pub rest_in : (stages : List Stage) (next : Stage) (bytes : List ℕ) (h : History) → Contains stages next → next.kept ≡ bytes → IsAtRest bytes h → IsInStage stages h

@@ -8,7 +8,7 @@ use Rattle.qx_outside.specs.Calls.{Did, MayDo}
 use Rattle.qx_outside.specs.Moments.{Moves}
 use Rattle.qx_outside.specs.Puts.{IsAtRest}
 use Rattle.qx_outside.specs.Trail.{Deed, History, after, bytes_of, others_of, resized, sized}
-use Rattle.qx_outside.proofs.Throughout.{Does, moves_did, reaches_does, reaches_then, moves_then}
+use Rattle.qx_outside.proofs.Throughout.{moves_did, reaches_does, reaches_then, moves_then}
 use Rattle.qx_make.specs.Stages.{IsInStage, MakesAll, PerformsAll, Stage, clear_stage, made_bytes, make_stages, new_stages, old_places, old_stages, rest_stage, zero_stages, zeroed}
 use Rattle.qx_make.proofs.StagesInOrder.{moves_map, on_err, on_ok, reaches_map, rest_in}
 

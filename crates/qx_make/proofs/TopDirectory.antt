@@ -2,7 +2,7 @@
 use Rattle.std.proofs.Common.{◌≡◌, ℕ, suc, ◌+◌, ◌-◌, ◌≤◌, ◌<◌, List, [], ◌∷◌, ◌++◌, length, replicate, take, drop, set, refl, ap, sym, ◌∙◌, arith, append_assoc, append-nil}
 use Rattle.std.specs.List.{replace_range}
 use Rattle.std.proofs.lemmas.List.{length-replicate, replicate-append-replicate, set_split}
-use Rattle.qx_bytes.proofs.Pieces.{Piece, filled, fill_next, joined}
+use Rattle.qx_bytes.proofs.Pieces.{Piece, filled}
 use Rattle.qx_fields.specs.declared.order.Order.{Order}
 use Rattle.qx_fields.specs.Number.{all_digits, digits}
 use Rattle.qx_fields.proofs.Fields.{length_all_digits, length_digits}

@@ -1,8 +1,7 @@
 -- The stages of a new volume, one after another.
-use Rattle.std.proofs.Common.{◌≡◌, ℕ, ◌≤◌, Bool, Result, Ok, IsErr, List, [], ◌∷◌, length, replicate, refl, arith}
+use Rattle.std.proofs.Common.{ℕ, Bool, Result, Ok, IsErr, List, refl, arith}
 use Rattle.qx_fields.specs.declared.order.Order.{Order}
 use Rattle.qx_geom.specs.declared.geometry.Geometry.{Geometry}
-use Rattle.qx_geom.specs.Layout.{IsGeometry}
 use Rattle.qx_outside.specs.Trail.{History}
 use Rattle.qx_make.specs.Stages.{Performs, PerformsAll, Stage, blocks_stage, clear_stage, new_stages, rest_stage, supers_stage, with_areas, with_blocks, with_volume}
 use Rattle.qx_make.proofs.StagesInOrder.{perform_fails, perform_one, perform_then}

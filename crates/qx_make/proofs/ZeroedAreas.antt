@@ -1,5 +1,5 @@
 -- An area is zeroed: what each call leaves of it.
-use Rattle.std.proofs.Common.{◌≡◌, ℕ, ◌+◌, ◌-◌, ◌≤◌, Bool, true, false, Result, Ok, IsErr, List, [], ◌∷◌, length, min, replicate, refl, ap, sym, ◌∙◌, subst, arith, ◌==◌, eqb-true}
+use Rattle.std.proofs.Common.{◌≡◌, ℕ, ◌+◌, ◌-◌, ◌≤◌, Bool, true, false, Result, Ok, IsErr, List, [], length, min, replicate, refl, ap, sym, ◌∙◌, subst, arith, ◌==◌, eqb-true}
 use Rattle.std.proofs.lemmas.Bool.{eqb-false}
 use Rattle.std.proofs.lemmas.List.{length-replicate, nil_from_length}
 use Rattle.qx_outside.specs.Calls.{Did, Syncs, Writes}
@@ -7,7 +7,7 @@ use Rattle.qx_outside.specs.Puts.{IsPartOf}
 use Rattle.qx_outside.specs.Ranges.{put_at}
 use Rattle.qx_outside.specs.Trail.{History, wrote, synced}
 use Rattle.qx_outside.proofs.PuttingMoments.{IsPartOf-whole, put_none}
-use Rattle.qx_make.specs.Stages.{Performs, Stage, after_stage, area_zeros, zero_stage}
+use Rattle.qx_make.specs.Stages.{Performs, after_stage, area_zeros, zero_stage}
 use Rattle.qx_make.proofs.StageSteps.{HasBegun, begin_stage, end_stage, fail_to_put, fail_to_sync, put_in_stage}
 
 module _ (bytes : List ℕ) (len place : ℕ) (long : length bytes ≡ len) (zeros : List ℕ) (are : zeros ≡ replicate (min 4096 (len - place)) 0) where

@@ -1,5 +1,5 @@
 -- What a cut of the maker may leave, and on which premises.
-use Rattle.std.specs.Prelude.{ℕ, ◌≡◌, ◌≢◌, ◌+◌, ◌-◌, ◌≤◌, ◌⊎◌, ◌↔◌, true, List, [], ◌∷◌, ◌++◌, length, replicate, slice_index, slice_range, option_to_list, Some, Ok, Contains}
+use Rattle.std.specs.Prelude.{ℕ, ◌≡◌, ◌≢◌, ◌+◌, ◌-◌, ◌≤◌, ◌⊎◌, ◌↔◌, true, List, ◌∷◌, ◌++◌, length, replicate, slice_index, slice_range, option_to_list, Some, Ok, Contains}
 use Rattle.qx_geom.specs.Layout.{whole_length}
 use Rattle.qx_geom.specs.declared.area.Which.{Which}
 use Rattle.qx_outside.specs.Trail.{History, bytes_of}

@@ -1,11 +1,10 @@
 -- The maker's way: what it puts between one good sync and the next, and over which bytes.
-use Rattle.std.specs.Prelude.{ℕ, ◌≡◌, IsTrue, Bool, Result, OnOk, ◌+◌, ◌-◌, List, [], ◌∷◌, ◌++◌, ◌⊎◌, flat_map, fold, length, min, replicate, Option, Some, None, Contains}
+use Rattle.std.specs.Prelude.{ℕ, ◌≡◌, IsTrue, Bool, Result, OnOk, ◌+◌, ◌-◌, List, [], ◌∷◌, ◌++◌, ◌⊎◌, flat_map, length, min, replicate, Option, Some, None, Contains}
 use Rattle.std.specs.List.{range_with_len}
 use Rattle.qx_outside.specs.Moments.{Moves, Reaches}
 use Rattle.qx_outside.specs.Puts.{HasPut, IsAtRest, IsPutting, Put, PutsOrRests, with_puts}
-use Rattle.qx_outside.specs.Trail.{Deed, History, bytes_of, lengths_asked, others_of, resized, sized}
+use Rattle.qx_outside.specs.Trail.{History, bytes_of, lengths_asked, others_of, resized, sized}
 use Rattle.qx_fields.specs.declared.order.Order.{Order}
-use Rattle.qx_geom.specs.declared.area.Which.{Which}
 use Rattle.qx_geom.specs.declared.area.Which.TheVariants.{First, Second}
 use Rattle.qx_geom.specs.declared.geometry.Geometry.{Geometry}
 use Rattle.qx_geom.specs.Layout.{area_place}

@@ -34,16 +34,6 @@ pub fn a_new_volume_is_sound()
         → IsSound img (empty_tree g.blocksize g.num_inodes moment) }
 {}
 
-/// Where both areas hold the maker's superblocks the second is active, and where the first alone does the first is.
-pub fn the_last_superblock_of_a_new_volume_is_active()
-    ensures second { (img : List ℕ) (g : Geometry) (order : Order) (moment : ℕ) → first_super img ≡ Some (made_superblock g order moment 1 areas.First)
-        → valid_area (length img) (area_at img (area_place g areas.Second)) ≡ Some (made_superblock g order moment 2 areas.Second)
-        → (active_area img ≡ picks.Active areas.Second) × (active_super img ≡ Some (made_superblock g order moment 2 areas.Second)) }
-    ensures first { (img : List ℕ) (g : Geometry) (order : Order) (moment : ℕ) → first_super img ≡ Some (made_superblock g order moment 1 areas.First)
-        → second_super img ≡ None
-        → (active_area img ≡ picks.Active areas.First) × (active_super img ≡ Some (made_superblock g order moment 1 areas.First)) }
-{}
-
 /// A volume of 65536 bytes with 16 inodes that was written by hand for the checker is one that the maker makes.
 pub fn the_volume_by_hand_is_a_new_one()
     ensures geometry { IsGeometry (numbers_of 65536 512 16) }

@@ -142,7 +142,13 @@ fn write_volume<D: Dev>(host: &mut D, volume: &NewVolume) -> Result<(), Failed>
 }
 
 /// Replaces whatever the device holds by a new volume of `size` bytes.
-fn replace<D: Dev>(host: &mut D, size: u64, geometry: &Geometry, order: Order, moment: u32) -> Result<(), Failed>
+fn replace<D: Dev>(
+    host: &mut D,
+    size: u64,
+    geometry: &Geometry,
+    order: Order,
+    moment: u32,
+) -> Result<(), Failed>
     requires geometry { IsGeometry geometry.now }
     requires size { geometry.now.len4 ≤ size }
     ensures now { moment < 2 ^ 32 }
@@ -187,13 +193,7 @@ pub fn make<D: Dev>(host: &mut D, options: &MakeOptions) -> Result<Made, MakeFau
         Err(fault) => return Err(MakeFault::Geom(fault)),
         Ok(geometry) => geometry,
     };
-    match replace(
-        host,
-        options.size,
-        &geometry,
-        options.order,
-        options.moment,
-    ) {
+    match replace(host, options.size, &geometry, options.order, options.moment) {
         Err(Failed) => Err(MakeFault::Device),
         Ok(()) => Ok(Made {
             blocks: geometry.num_blocks,

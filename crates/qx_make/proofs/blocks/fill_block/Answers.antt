@@ -1,4 +1,4 @@
-use Rattle.std.proofs.Common.{◌≡◌, ℕ, ◌+◌, ◌≤◌, ◌<◌, arith}
+use Rattle.std.proofs.Common.{arith}
 use Rattle.qx_geom.proofs.VolumeNumbers.{IsGeometry-keeps}
 use Rattle.qx_make.proofs.blocks.fill_block.Goals as goal
 use Rattle.qx_geom.proofs.BlockSizes.{block_size-bounds}

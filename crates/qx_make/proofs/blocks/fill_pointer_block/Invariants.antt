@@ -1,4 +1,4 @@
-use Rattle.std.proofs.Common.{◌≡◌, ℕ, ◌*◌, take}
+use Rattle.std.proofs.Common.{◌≡◌, ◌*◌, take}
 use Rattle.std.specs.List.{flat_map, range_with_len}
 use Rattle.qx_fields.specs.Number.{digits}
 use Rattle.qx_geom.specs.Layout.{system_word_of}

@@ -1,4 +1,4 @@
-use Rattle.std.proofs.Common.{◌≡◌, ℕ, ◌-◌, ◌++◌, List, replicate, take, drop, length, ap, ◌∙◌, arith, lit<}
+use Rattle.std.proofs.Common.{◌≡◌, ℕ, ◌-◌, ◌++◌, List, replicate, take, drop, length, ◌∙◌, lit<}
 use Rattle.qx_bytes.proofs.Pieces.{filled, fill_next, fill_part}
 use Rattle.qx_fields.specs.Number.{put_field}
 use Rattle.qx_make.proofs.TopDirectory.{blanks_from, row_pieces, row_pieces-filled}

@@ -1,4 +1,4 @@
-use Rattle.qx_make.proofs.BlockPuts.{blocks_done, blocks_fail, blocks_sync_fails}
+use Rattle.qx_make.proofs.BlockPuts.{blocks_done, blocks_sync_fails}
 use Rattle.qx_make.proofs.halves.write_blocks.Goals as goal
 
 pub returns-in_err-sync-clause-stage : goal.returns-in_err-sync-clause-stage

@@ -1,11 +1,9 @@
-use Rattle.std.proofs.Common.{rules, ◌≡◌, ℕ, ◌+◌, ◌-◌, ◌*◌, ◌/◌, ◌≤◌, ◌<◌, min, length, drop, refl, ap, sym, ◌∙◌, arith, length-append, length-drop, length-take}
+use Rattle.std.proofs.Common.{rules, ◌≡◌, ℕ, ◌*◌, ◌/◌, ◌≤◌, ◌<◌, length, refl, ap, ◌∙◌, arith, length-append, length-drop}
 use Rattle.std.proofs.Math.Nat.{div-mul-le_self, le-div_iff_mul-le, mul-le-mul_right}
 use Rattle.qx_geom.proofs.BlockSizes.{block_size-bounds}
 use Rattle.qx_geom.proofs.VolumeNumbers.{IsGeometry-keeps}
-use Rattle.qx_outside.specs.Calls.{LeavesRest}
 use Rattle.qx_outside.proofs.ToldLengths.{told_after, told_stays}
 use Rattle.qx_make.proofs.BlockPuts.{length-made, no_piece, one_piece, piece_fails, piece_told, pieces_done}
-use Rattle.qx_make.proofs.halves.write_pieces.Given.{Over}
 use Rattle.qx_make.proofs.halves.write_pieces.Goals as goal
 
 pub overflow_mul-blocks : goal.overflow_mul-blocks

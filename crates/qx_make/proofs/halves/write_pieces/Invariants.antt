@@ -1,4 +1,4 @@
-use Rattle.std.proofs.Common.{◌≡◌, ℕ, ◌+◌, ◌-◌, ◌*◌, ◌≤◌, List, length}
+use Rattle.std.proofs.Common.{◌≡◌, ℕ, ◌-◌, ◌≤◌, List, length}
 use Rattle.std.specs.List.{flat_map, range_with_len}
 use Rattle.qx_outside.specs.Calls.{LeavesRest}
 use Rattle.qx_outside.specs.Ranges.{put_at}

@@ -1,8 +1,6 @@
-use Rattle.std.proofs.Common.{◌≡◌, ℕ, List, [], ◌∷◌, ◌++◌, length, replicate, refl, ap, sym, ◌∙◌, subst, IsTrue}
+use Rattle.std.proofs.Common.{◌≡◌, ℕ, List, [], ◌∷◌, ◌++◌, length, replicate, ap, sym, ◌∙◌, subst, IsTrue}
 use Rattle.std.proofs.lemmas.List.{length-replicate}
-use Rattle.qx_outside.specs.Calls.{Idles}
 use Rattle.qx_outside.specs.Trail.{bytes_of}
-use Rattle.qx_super.specs.Active.{AreRead}
 use Rattle.qx_make.specs.Stages.{PerformsAll, old_places, old_stages, places_of_two, rest_stage, zero_stages, zeroed}
 use Rattle.qx_make.proofs.OldStages.{idles_then, old_places-read, reading_fails, then_stages}
 use Rattle.qx_outside.proofs.ToldLengths.{answered_is}

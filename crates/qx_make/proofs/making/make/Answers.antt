@@ -1,8 +1,8 @@
-use Rattle.std.proofs.Common.{◌≡◌, ◌≤◌, ◌<◌, ◌+◌, ◌*◌, Ok, List, refl, sym, subst, arith}
+use Rattle.std.proofs.Common.{◌≡◌, refl, sym, subst, arith}
 use Rattle.qx_geom.specs.declared.geometry.Geometry.{Geometry}
 use Rattle.qx_geom.proofs.VolumeNumbers.{IsGeometry-keeps}
 use Rattle.qx_outside.specs.Trail.{bytes_of}
-use Rattle.qx_make.specs.Make.{HasMade, geometry_for}
+use Rattle.qx_make.specs.Make.{HasMade}
 use Rattle.qx_make.proofs.MadeVolumes.{asks_one_length, has_made, keeps_quiet, moments_idle, moments_made, room}
 use Rattle.qx_make.proofs.making.make.Goals as goal
 

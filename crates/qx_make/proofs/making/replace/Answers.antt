@@ -1,5 +1,4 @@
-use Rattle.std.proofs.Common.{◌≡◌, ◌≤◌, ℕ, List, length, arith}
-use Rattle.qx_geom.specs.Layout.{IsGeometry}
+use Rattle.std.proofs.Common.{◌≤◌, ℕ, List, length, arith}
 use Rattle.qx_make.specs.Stages.{old_places, zeroed}
 use Rattle.qx_outside.specs.Trail.{resized}
 use Rattle.qx_make.proofs.BytesAt.{length-resized}

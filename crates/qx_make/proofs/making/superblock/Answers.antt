@@ -1,4 +1,4 @@
-use Rattle.std.proofs.Common.{◌≤◌, arith}
+use Rattle.std.proofs.Common.{arith}
 use Rattle.qx_geom.proofs.VolumeNumbers.{IsGeometry-keeps}
 use Rattle.qx_make.proofs.NewBlocks.{inodes_from}
 use Rattle.qx_make.proofs.making.superblock.Goals as goal

@@ -1,6 +1,7 @@
-use Rattle.std.proofs.Common.{◌≡◌, ℕ, List, [], ◌∷◌, ◌++◌, length, Ok, refl, ◌∙◌, arith}
+use Rattle.std.proofs.Common.{ℕ, List, [], ◌∷◌, Ok, refl, ◌∙◌, arith}
 use Rattle.qx_make.specs.Stages.{Stage, after_stage, rest_stage, zero_stage}
-use Rattle.qx_make.proofs.StagesInOrder.{length-zeroed, perform_fails, perform_one, perform_then}
+use Rattle.qx_make.proofs.StagesInOrder.{perform_fails, perform_one, perform_then}
+use Rattle.qx_make.proofs.TornAreas.{length-zeroed}
 use Rattle.qx_make.proofs.making.zero_both.Goals as goal
 
 module _ (bytes : List ℕ) (one last : ℕ) where

@@ -1,4 +1,4 @@
-use Rattle.std.proofs.Common.{◌≡◌, ℕ, Option, List, [], ◌∷◌, ◌++◌, refl, arith, subst, sym}
+use Rattle.std.proofs.Common.{ℕ, Option, [], ◌∷◌, ◌++◌, refl, arith, subst, sym}
 use Rattle.qx_make.specs.Stages.{PerformsAll, after_stage, places_of_two, rest_stage, zero_stage, zero_stages, zeroed}
 use Rattle.qx_make.proofs.StagesInOrder.{perform_one}
 use Rattle.qx_make.proofs.making.zero_places.Goals as goal
