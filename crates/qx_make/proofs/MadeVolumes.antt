@@ -9,7 +9,7 @@ use Rattle.qx_model.specs.EmptyTree.{empty_tree}
 use Rattle.qx_model.specs.Tree.{Tree}
 use Rattle.qx_nodes.specs.BlockMap.{BlockMap}
 use Rattle.qx_outside.specs.Puts.{IsAtRest}
-use Rattle.qx_outside.specs.Trail.{Deed, History, bytes_of, events_of, input_of, lengths_asked, others_of, output_of, resized}
+use Rattle.qx_outside.specs.Trail.{Deed, History, took, gave, wrote, synced, sized, told_moment, bytes_of, events_of, input_of, lengths_asked, others_of, output_of, resized}
 use Rattle.qx_outside.proofs.OtherDeeds.{input-others, lengths-others, output-others}
 use Rattle.qx_outside.proofs.PuttingMoments.{IsPutting-rest}
 use Rattle.qx_outside.proofs.Throughout.{throughout_here, throughout_map}
@@ -23,7 +23,7 @@ use Rattle.qx_view.specs.Reading.{IsTreeOf}
 use Rattle.qx_make.specs.declared.options.MakeOptions.{MakeOptions}
 use Rattle.qx_make.specs.Blocks.{AreMade}
 use Rattle.qx_make.specs.Cut.{IsLeftByMaker, IsReadyToMake, LeavesByMaker, nothing, old_volume, places_of}
-use Rattle.qx_make.specs.Make.{HasMade, KeepsQuiet, MakesAtEachMoment, geometry_for, tree_for}
+use Rattle.qx_make.specs.Make.{HasMade, KeepsQuiet, MakesAtEachMoment, geometry_for, moments_told, tree_for}
 use Rattle.qx_make.specs.NewVolume.{made_superblock, new_roots}
 use Rattle.qx_make.specs.Stages.{AsksOneLength, IsInStage, MakesAll, MayAskOneLength, made_bytes, make_stages, old_places, rest_stage, zeroed}
 use Rattle.qx_make.specs.Superblocks.{made_super}
@@ -44,16 +44,28 @@ asks_one_length size old new may = elim may [
   | inr one ↦ inr (lengths-others new.deeds ∙ ap lengths_asked one.1 ∙ ap (λ (l : List ℕ). size ∷ l) (sym (lengths-others old.deeds)))
 ]
 
--- and the console was left alone
+-- the moments that were told are among the deeds but for writes and syncs
+moments-others : (deeds : List Deed) → moments_told deeds ≡ moments_told (others_of deeds)
+moments-others [] = refl
+moments-others (took bytes ∷ before) = moments-others before
+moments-others (gave bytes ∷ before) = moments-others before
+moments-others (wrote at asked left ok ∷ before) = moments-others before
+moments-others (synced ok ∷ before) = moments-others before
+moments-others (sized len ok ∷ before) = moments-others before
+moments-others (told_moment moment ∷ before) = ap (λ (l : List ℕ). moment ∷ l) (moments-others before)
+
+-- and the console and the clock were left alone
 pub keeps_quiet : (size : ℕ) (old new : History) → MayAskOneLength size old new → KeepsQuiet old new
 keeps_quiet size old new may = elim may [
   | inl same ↦ record {
     taken = input-others new.deeds ∙ ap (λ (d : List Deed). input_of (events_of d)) same ∙ sym (input-others old.deeds);
     given = output-others new.deeds ∙ ap (λ (d : List Deed). output_of (events_of d)) same ∙ sym (output-others old.deeds);
+    moments = moments-others new.deeds ∙ ap moments_told same ∙ sym (moments-others old.deeds);
   }
   | inr one ↦ record {
     taken = input-others new.deeds ∙ ap (λ (d : List Deed). input_of (events_of d)) one.1 ∙ append-nil (input_of (events_of (others_of old.deeds))) ∙ sym (input-others old.deeds);
     given = output-others new.deeds ∙ ap (λ (d : List Deed). output_of (events_of d)) one.1 ∙ append-nil (output_of (events_of (others_of old.deeds))) ∙ sym (output-others old.deeds);
+    moments = moments-others new.deeds ∙ ap moments_told one.1 ∙ sym (moments-others old.deeds);
   }
 ]
 

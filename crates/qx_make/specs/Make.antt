@@ -1,5 +1,5 @@
 -- What the maker promises for its options.
-use Rattle.std.specs.Prelude.{ℕ, ◌≡◌, ◌-◌, Bool, IsTrue, List, Result, Some}
+use Rattle.std.specs.Prelude.{ℕ, ◌≡◌, ◌-◌, Bool, IsTrue, List, [], ◌∷◌, Result, Some}
 use Rattle.qx_geom.specs.declared.area.Which.TheVariants.{Second}
 use Rattle.qx_geom.specs.declared.geometry.GeomFault.{GeomFault}
 use Rattle.qx_geom.specs.declared.geometry.Geometry.{Geometry}
@@ -8,7 +8,7 @@ use Rattle.qx_model.specs.EmptyTree.{empty_tree}
 use Rattle.qx_model.specs.Tree.{Tree}
 use Rattle.qx_outside.specs.Images.{IsSettled}
 use Rattle.qx_outside.specs.Moments.{HoldsThroughout}
-use Rattle.qx_outside.specs.Trail.{History, bytes_of, input, output}
+use Rattle.qx_outside.specs.Trail.{History, Deed, took, gave, wrote, synced, sized, told_moment, bytes_of, input, output}
 use Rattle.qx_super.specs.declared.choice.Pick.TheVariants as picks
 use Rattle.qx_super.specs.Active.{active_area, active_super}
 use Rattle.qx_view.specs.Sound.{IsSound}
@@ -43,7 +43,18 @@ pub record MakesAtEachMoment {D : Type 0} (tells : D → Bool) (history : D → 
   pub before : IsTrue (tells new) → IsTrue (tells old)
   pub step : IsTrue (tells new) → IsReadyToMake (history old) → HoldsThroughout (LeavesByMaker (bytes_of (history old)) o.size (tree_for o)) (history old) (history new)
 
--- nothing was taken from the console, and nothing given to it
+-- the moments that the clock told, the newest first
+abbrev pub moments_told : List Deed → List ℕ
+moments_told [] = []
+moments_told (told_moment moment ∷ before) = moment ∷ moments_told before
+moments_told (took bytes ∷ before) = moments_told before
+moments_told (gave bytes ∷ before) = moments_told before
+moments_told (wrote at asked left ok ∷ before) = moments_told before
+moments_told (synced ok ∷ before) = moments_told before
+moments_told (sized len ok ∷ before) = moments_told before
+
+-- nothing was taken from the console, nothing given to it, and the clock told no moment
 pub record KeepsQuiet (old new : History) : Type 0 where
   pub taken : input new ≡ input old
   pub given : output new ≡ output old
+  pub moments : moments_told new.deeds ≡ moments_told old.deeds
