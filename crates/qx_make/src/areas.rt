@@ -1,5 +1,5 @@
 //! Superblock areas: zeroed, so that nothing is found there, or filled.
-ghost use Rattle.std.specs.Prelude.{◌≡◌, ℕ, ◌+◌, ◌-◌, ◌≤◌, List, length, min, replicate, IfSome, OnOk};
+ghost use Rattle.std.specs.Prelude.{◌≡◌, ℕ, ◌-◌, ◌≤◌, List, length, min, replicate, IfSome};
 ghost use Rattle.qx_outside.specs.Causes.{HasCause};
 ghost use Rattle.qx_outside.specs.Calls.{LeavesRest};
 ghost use Rattle.qx_geom.specs.Layout.{IsGeometry};

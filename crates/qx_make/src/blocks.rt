@@ -2,7 +2,6 @@
 ghost use Rattle.std.specs.Prelude.{◌≡◌, ◌+◌, ◌*◌, ◌^◌, ◌≤◌, ◌<◌, flat_map, length};
 ghost use Rattle.std.specs.List.{range_with_len};
 ghost use Rattle.qx_geom.specs.Layout.{IsGeometry, IsPointerBlock, first_block};
-ghost use Rattle.qx_geom.specs.Pointer.{per_block};
 ghost use Rattle.qx_make.specs.Blocks.{bitmap_byte, bitmap_leaf_bytes, half_block_bytes, inode_leaf_bytes, is_taken, made_block_bytes, pointer_block_bytes, top_block, top_directory_bytes, top_inode_bytes};
 
 use qx_fields::{Order, put16, put32, put32s, put64};
