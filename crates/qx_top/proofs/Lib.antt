@@ -1,2 +1,5 @@
 pub mod Readings
+pub mod MakerRuns
+pub mod SizeWords
+pub mod VolumeEnds
 pub mod Words

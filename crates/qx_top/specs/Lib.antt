@@ -3,5 +3,9 @@ pub use Rattle.qx_super.specs.Active
 pub use Rattle.qx_outside.specs.Trail
 pub use Rattle.qx_outside.specs.Causes
 pub use Rattle.qx_outside.specs.Calls
+pub use Rattle.qx_make.specs.Make
+pub use Rattle.qx_make.specs.Cut
+pub mod Sizes
 pub mod Lines
 pub mod Run
+pub mod Volumes

@@ -1,10 +1,13 @@
--- What is printed of an image's superblocks.
+-- What is printed of an image's superblocks, and of a volume that was asked for.
 use Rattle.std.specs.Prelude.{ℕ, Bool, List, ◌++◌, ◌==◌, ◌||◌, codes, decimal, Option, Some, None, if◌then◌else◌}
 use Rattle.qx_fields.specs.declared.order.Order.{Order}
 use Rattle.qx_fields.specs.declared.order.Order.TheVariants.{Little, Big}
 use Rattle.qx_fields.specs.Number.{field}
 use Rattle.qx_geom.specs.declared.area.Which.{Which}
+use Rattle.qx_geom.specs.declared.geometry.GeomFault.{GeomFault}
+use Rattle.qx_geom.specs.declared.geometry.GeomFault.TheVariants.{BlockSize, TooShort, TooLarge, Inodes}
 use Rattle.qx_geom.specs.Area.{area_number}
+use Rattle.qx_make.specs.declared.options.Made.{Made}
 use Rattle.qx_super.specs.declared.choice.Pick.{Pick}
 use Rattle.qx_super.specs.declared.choice.Pick.TheVariants as picks
 use Rattle.qx_super.specs.Superblock.{Superblock}
@@ -52,3 +55,18 @@ supers_report img =
 unfoldable pub report_read : List ℕ → List ℕ → ℕ → Report
 report_read first second len =
     if begins_big first || begins_big second then refused (codes "big order\n") else report_of (pick_of (first_read first len) (second_read first second len)) (super_of_pick (pick_of (first_read first len) (second_read first second len)) (first_read first len) (second_read first second len))
+
+-- ---- a volume that was asked for
+
+-- the line about numbers that are those of no volume
+abbrev pub fault_line : GeomFault → List ℕ
+fault_line BlockSize = codes "bad BlockSize\n"
+fault_line TooShort = codes "bad TooShort\n"
+fault_line TooLarge = codes "bad TooLarge\n"
+fault_line Inodes = codes "bad Inodes\n"
+
+-- the line about a volume that was made
+unfoldable pub made_line : Made → List ℕ
+made_line made =
+    codes "made blocks " ++ decimal made.blocks ++ codes " user " ++ decimal made.user ++ codes " free " ++ decimal made.free ++ codes " inodes " ++ decimal made.inodes
+    ++ codes "\n"

@@ -1,10 +1,12 @@
 -- What a run does by its words.
-use Rattle.std.specs.Prelude.{ℕ, ◌≡◌, ◌≢◌, ◌≤◌, ◌⊎◌, Bool, IsTrue, List, [], ◌∷◌, String, string_bytes, map, codes, length, take}
+use Rattle.std.specs.Prelude.{ℕ, ◌≡◌, ◌≢◌, ◌≤◌, ◌⊎◌, Bool, IsTrue, List, [], ◌∷◌, String, string_bytes, map, codes, length, take, Err, Some}
+use Rattle.qx_geom.specs.declared.geometry.GeomFault.{GeomFault}
 use Rattle.qx_outside.specs.Causes.{Rose}
 use Rattle.qx_outside.specs.Trail.{History, gave, after, bytes_of}
 use Rattle.qx_top.specs.declared.status.Status.{Status}
 use Rattle.qx_top.specs.declared.status.Status.TheVariants.{Done, BadWords, BadImage, DeviceFault, ConsoleFault, NoMemory}
-use Rattle.qx_top.specs.Lines.{supers_report}
+use Rattle.qx_top.specs.Lines.{fault_line, supers_report}
+use Rattle.qx_top.specs.Sizes.{size_of, volume_of}
 
 -- the exit status
 abbrev pub code_of : Status → ℕ
@@ -30,6 +32,22 @@ texts_of words = map string_bytes words
 -- the words ask for a line about the superblocks of this image
 abbrev pub AsksForSupers : List (List ℕ) → List ℕ → Type 0
 AsksForSupers words image = words ≡ codes "chkqnx6fs" ∷ codes "-s" ∷ image ∷ []
+
+-- the words ask for a volume of so many bytes on this image
+pub record AsksForVolume (words : List (List ℕ)) (image : List ℕ) (size : ℕ) : Type 0 where
+  pub word : List ℕ
+  pub are : words ≡ codes "mkqnx6fs" ∷ image ∷ word ∷ []
+  pub says : size_of word ≡ Some size
+
+-- the words ask for nothing that is known
+pub record AsksForNothing (words : List (List ℕ)) : Type 0 where
+  pub no_supers : (image : List ℕ) → AsksForSupers words image → ⊥
+  pub no_volume : (image : List ℕ) (size : ℕ) → AsksForVolume words image size → ⊥
+
+-- the words aren't accepted, or their numbers are those of no volume, and this line says so
+pub data IsRefused (words : List (List ℕ)) (line : List ℕ) : Type 0 where
+  by_words : AsksForNothing words → line ≡ usage → IsRefused words line
+  by_numbers : (image : List ℕ) (size : ℕ) (fault : GeomFault) → AsksForVolume words image size → volume_of size ≡ Err fault → line ≡ fault_line fault → IsRefused words line
 
 -- a prefix of the text was given, or nothing
 abbrev pub GivesPartOf : List ℕ → History → History → Type 0

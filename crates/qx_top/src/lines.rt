@@ -1,12 +1,13 @@
 //! Lines of text in place, without memory.
 ghost use Rattle.std.specs.Prelude.{◌≡◌, ◌+◌, ◌≤◌, ◌++◌, length, codes, decimal};
 ghost use Rattle.arrayvec.specs.ArrayString.{array_string_len};
-ghost use Rattle.qx_top.specs.Lines.{area_line, order_word};
+ghost use Rattle.qx_top.specs.Lines.{area_line, fault_line, made_line, order_word};
 
 use arrayvec::ArrayString;
 use itoa::Buffer;
 use qx_fields::Order;
-use qx_geom::Which;
+use qx_geom::{GeomFault, Which};
+use qx_make::Made;
 use qx_super::SuperView;
 
 /// Room for the line about an area: 54 bytes of words, and five numbers that count as 20 digits each.
@@ -51,6 +52,36 @@ pub fn line_of_area(which: Which, view: &SuperView<'_>) -> Line
     line.push_str(order_text(view.order()));
     line.push_str("\n");
     line
+}
+
+/// The line about a volume that was made.
+#[tactic(auto, unfolding(crate::specs::Lines::made_line))]
+pub fn line_of_made(made: &Made) -> Line
+    ensures { result.bytes ≡ made_line made.now }
+{
+    let mut line = Line::new();
+    line.push_str("made blocks ");
+    push_number(&mut line, u64::from(made.blocks));
+    line.push_str(" user ");
+    push_number(&mut line, u64::from(made.user));
+    line.push_str(" free ");
+    push_number(&mut line, u64::from(made.free));
+    line.push_str(" inodes ");
+    push_number(&mut line, u64::from(made.inodes));
+    line.push_str("\n");
+    line
+}
+
+/// The line about numbers that are those of no volume.
+pub fn text_of_fault(fault: GeomFault) -> &'static str
+    ensures { result.now ≡ fault_line fault }
+{
+    match fault {
+        GeomFault::BlockSize => "bad BlockSize\n",
+        GeomFault::TooShort => "bad TooShort\n",
+        GeomFault::TooLarge => "bad TooLarge\n",
+        GeomFault::Inodes => "bad Inodes\n",
+    }
 }
 
 /// A line of this text.

@@ -15,7 +15,7 @@ use qx_outside::{Dev, Failed, Host};
 use qx_super::{MAGIC, Pick, SuperView, active_view, areas};
 
 /// The line for a device call that failed.
-const DEVICE_FAULT: &str = "device fault\n";
+pub const DEVICE_FAULT: &str = "device fault\n";
 
 /// What is to be said of an image, and how the run then ends.
 #[derive(Drop)]

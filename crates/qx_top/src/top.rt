@@ -1,10 +1,15 @@
 //! The run of a program's words over a host.
-ghost use Rattle.std.specs.Prelude.{◌≡◌, ◌≢◌, ◌<◌, ◌∷◌, [], IfSome, IfNone, IsTrue, List, ℕ, false};
+ghost use Rattle.std.specs.Prelude.{◌≡◌, ◌≢◌, ◌<◌, ◌∷◌, [], IfSome, IfNone, IsTrue, List, ℕ, Ok, false};
+ghost use Rattle.qx_geom.specs.declared.geometry.Geometry.{Geometry};
 ghost use Rattle.qx_outside.specs.Causes.{Becomes, Rose};
 ghost use Rattle.qx_outside.specs.Calls.{LeavesDevice};
-ghost use Rattle.qx_top.specs.Run.{code_of, usage, texts_of, AsksForSupers, Says, ReportsSupers};
+ghost use Rattle.qx_top.specs.Run.{code_of, texts_of, AsksForSupers, AsksForVolume, IsRefused, Says, ReportsSupers};
+ghost use Rattle.qx_top.specs.Sizes.{volume_of};
+ghost use Rattle.qx_top.specs.Volumes.{HasCreated, MakesVolume};
 
 use crate::Status;
+use crate::maker::make_volume;
+use crate::sizes::size_of_word;
 use crate::supers::report_supers;
 use qx_outside::Host;
 
@@ -45,41 +50,68 @@ fn image_of_supers<'a>(words: &'a [String]) -> Option<&'a str>
     }
 }
 
-/// Does what the words say.
-fn obey<H: Host>(words: &[String], host: &mut H) -> Status
-    ensures exits { code_of result < 5 }
-    ensures supers { (image : List ℕ) → AsksForSupers (texts_of words.now) image → ReportsSupers H.tells H.history H.dev_faults (code_of result) host.old host.new }
-    ensures attached { (image : List ℕ) → AsksForSupers (texts_of words.now) image → Becomes (H.attached host.old) (H.attached host.new) (λ old new. new ≡ record { path = image; create = false } ∷ old) }
-    ensures usage { ((image : List ℕ) → AsksForSupers (texts_of words.now) image → ⊥) → Says H.tells H.history usage 1 (code_of result) host.old host.new }
-    ensures others { ((image : List ℕ) → AsksForSupers (texts_of words.now) image → ⊥) → LeavesDevice H.extent H.attached H.dev_reads H.dev_faults host.old host.new }
-    ensures words { code_of result ≡ 1 → (image : List ℕ) → AsksForSupers (texts_of words.now) image → ⊥ }
-    ensures device { code_of result ≡ 3 → Rose (H.dev_faults host.old) (H.dev_faults host.new) }
-    ensures console { code_of result ≡ 4 → Rose (H.con_faults host.old) (H.con_faults host.new) }
+/// The image and the size of the volume that the words ask for.
+fn volume_of_words<'a>(words: &'a [String]) -> Option<(&'a str, u64)>
+    ensures some { IfSome result (λ asked. AsksForVolume (texts_of words.now) asked.0.now asked.1) }
+    ensures none { IfNone result ((image : List ℕ) (size : ℕ) → AsksForVolume (texts_of words.now) image size → ⊥) }
 {
-    match image_of_supers(words) {
-        Some(image) => report_supers(host, image),
-        None => say(host, USAGE, Status::BadWords),
+    match words {
+        [command, image, size] if command.as_str() == "mkqnx6fs" => {
+            let size = size_of_word(size.as_str())?;
+            Some((image.as_str(), size))
+        }
+        _ => None,
     }
 }
 
+/// Does what the words say.
+fn obey<H: Host>(words: &[String], host: &mut H) -> Status
+    ensures supers { (image : List ℕ) → AsksForSupers (texts_of words.now) image → ReportsSupers H.tells H.history H.dev_faults (code_of result) host.old host.new }
+    ensures attached { (image : List ℕ) → AsksForSupers (texts_of words.now) image → Becomes (H.attached host.old) (H.attached host.new) (λ old new. new ≡ record { path = image; create = false } ∷ old) }
+    ensures makes { (image : List ℕ) (size : ℕ) (g : Geometry) → AsksForVolume (texts_of words.now) image size → volume_of size ≡ Ok g
+        → MakesVolume H.tells H.history H.extent H.attached H.dev_reads H.dev_faults image size g (code_of result) host.old host.new }
+    ensures refused { (line : List ℕ) → IsRefused (texts_of words.now) line → Says H.tells H.history line 1 (code_of result) host.old host.new }
+    ensures others { (line : List ℕ) → IsRefused (texts_of words.now) line → LeavesDevice H.extent H.attached H.dev_reads H.dev_faults host.old host.new }
+    ensures exits { code_of result < 5 }
+    ensures words { code_of result ≡ 1 → (line : List ℕ) × IsRefused (texts_of words.now) line }
+    ensures device { code_of result ≡ 3 → Rose (H.dev_faults host.old) (H.dev_faults host.new) }
+    ensures console { code_of result ≡ 4 → Rose (H.con_faults host.old) (H.con_faults host.new) }
+{
+    if let Some(image) = image_of_supers(words) {
+        return report_supers(host, image);
+    }
+    if let Some((image, size)) = volume_of_words(words) {
+        return make_volume(host, image, size);
+    }
+    say(host, USAGE, Status::BadWords)
+}
+
 /// Does what the words say, and gives its text to the console.
-/// Accepted are `chkqnx6fs -s IMAGE`; all other words get the usage line. Words are UTF-8 texts without the program's own name.
-/// Exit status 0: done. 1: the words aren't accepted. 2: no volume, two areas that disagree, or big order. 3: a device call failed. 4: a console call failed.
+/// Accepted are `chkqnx6fs -s IMAGE` and `mkqnx6fs IMAGE SIZE`; all other words get the usage line. Words are UTF-8 texts without the program's own name.
+/// Exit status 0: done. 1: the words aren't accepted, or their numbers are those of no volume. 2: no volume, two areas that disagree, or big order. 3: a device call failed. 4: a console or clock call failed.
 pub fn run<H: Host>(words: &[String], host: H) -> Ended<H>
     requires trail { IsTrue (H.tells host) → (H.history host).deeds ≡ [] }
     requires attached { IfSome (H.attached host) (λ paths. paths ≡ []) }
 
-    // Where the words are accepted, the image alone is attached, and is never made.
+    // The superblocks are asked for: the image alone is attached, and is never made.
     ensures supers { (image : List ℕ) → AsksForSupers (texts_of words.now) image → ReportsSupers H.tells H.history H.dev_faults result.status host result.host }
     ensures attached { (image : List ℕ) → AsksForSupers (texts_of words.now) image → IfSome (H.attached result.host) (λ paths. paths ≡ record { path = image; create = false } ∷ []) }
 
-    // For all other words the usage line is the only outside call.
-    ensures usage { ((image : List ℕ) → AsksForSupers (texts_of words.now) image → ⊥) → Says H.tells H.history usage 1 result.status host result.host }
-    ensures others { ((image : List ℕ) → AsksForSupers (texts_of words.now) image → ⊥) → LeavesDevice H.extent H.attached H.dev_reads H.dev_faults host result.host }
+    // A volume is asked for: the image alone is attached, and is made where it is missing.
+    ensures makes { (image : List ℕ) (size : ℕ) (g : Geometry) → AsksForVolume (texts_of words.now) image size → volume_of size ≡ Ok g
+        → MakesVolume H.tells H.history H.extent H.attached H.dev_reads H.dev_faults image size g result.status host result.host }
+    ensures created { (image : List ℕ) (size : ℕ) (g : Geometry) → AsksForVolume (texts_of words.now) image size → volume_of size ≡ Ok g
+        → IfSome (H.attached result.host) (HasCreated image result.status) }
+    ensures made { (image : List ℕ) (size : ℕ) (g : Geometry) → AsksForVolume (texts_of words.now) image size → volume_of size ≡ Ok g
+        → (Rose (H.dev_faults host) (H.dev_faults result.host) → ⊥) → (Rose (H.con_faults host) (H.con_faults result.host) → ⊥) → result.status ≡ 0 }
+
+    // All else is refused, and the line that says so is the only outside call.
+    ensures refused { (line : List ℕ) → IsRefused (texts_of words.now) line → Says H.tells H.history line 1 result.status host result.host }
+    ensures others { (line : List ℕ) → IsRefused (texts_of words.now) line → LeavesDevice H.extent H.attached H.dev_reads H.dev_faults host result.host }
 
     // Each status has its cause.
     ensures exits { result.status < 5 }
-    ensures words { result.status ≡ 1 → (image : List ℕ) → AsksForSupers (texts_of words.now) image → ⊥ }
+    ensures words { result.status ≡ 1 → (line : List ℕ) × IsRefused (texts_of words.now) line }
     ensures device { result.status ≡ 3 → Rose (H.dev_faults host) (H.dev_faults result.host) }
     ensures console { result.status ≡ 4 → Rose (H.con_faults host) (H.con_faults result.host) }
     ensures complete { (Rose (H.dev_faults host) (H.dev_faults result.host) → ⊥) → (Rose (H.con_faults host) (H.con_faults result.host) → ⊥) → result.status < 3 }

@@ -1,0 +1,243 @@
+-- The maker's run, put together from its calls: the clock, the attach, the maker, and what is said at the end.
+use Rattle.std.proofs.Common.{◌≡◌, ◌≢◌, ◌⊎◌, inl, inr, Bool, ℕ, List, ◌∷◌, ◌++◌, take, Option, refl, sym, ap, ◌∙◌, subst, append-nil, arith}
+use Rattle.std.specs.Prelude.{IsTrue, Result, Ok, Err}
+use Rattle.std.proofs.lemmas.Bool.{cases_eq}
+use Rattle.qx_outside.specs.declared.event.Attachment.{Attachment}
+use Rattle.qx_outside.specs.Calls.{Did, Idles}
+use Rattle.qx_outside.specs.Causes.{Becomes, Rose}
+use Rattle.qx_outside.specs.Moments.{HoldsThroughout}
+use Rattle.qx_outside.specs.Trail.{History, gave, told_moment, after, bytes_of, lengths_asked, output}
+use Rattle.qx_outside.proofs.Cuts.{image_settled}
+use Rattle.qx_outside.proofs.Throughout.{throughout_first, throughout_here, throughout_last, throughout_more, throughout_then}
+use Rattle.qx_geom.specs.declared.geometry.GeomFault.{GeomFault}
+use Rattle.qx_geom.specs.declared.geometry.Geometry.{Geometry}
+use Rattle.qx_view.specs.FalseSuperblocks.{MayStand, kept, asked, invalid}
+use Rattle.qx_make.specs.declared.options.Made.{Made}
+use Rattle.qx_make.specs.declared.options.MakeFault.{MakeFault}
+use Rattle.qx_make.specs.declared.options.MakeFault.TheVariants as faults
+use Rattle.qx_make.specs.declared.options.MakeOptions.{MakeOptions}
+use Rattle.qx_super.specs.declared.choice.Pick.{Pick}
+use Rattle.qx_super.specs.declared.choice.Pick.TheVariants as picks
+use Rattle.qx_super.specs.Active.{active_area}
+use Rattle.qx_make.specs.Cut.{IsLeftByMaker, nothing, old_volume, IsReadyToMake, LeavesByMaker}
+use Rattle.qx_make.specs.Make.{HasMade, KeepsQuiet, MakesAtEachMoment, geometry_for, made_of, moments_told, tree_for}
+use Rattle.qx_make.specs.Stages.{AsksOneLength}
+use Rattle.qx_top.specs.Lines.{made_line}
+use Rattle.qx_top.specs.Run.{Says, device_fault}
+use Rattle.qx_top.specs.Sizes.{options_of}
+use Rattle.qx_top.specs.Volumes.{AddsPartOf, MakesAt, created}
+
+-- ---- what the console and the clock leave as it is
+
+-- what may stand somewhere depends on no text that was given
+before_text : (bytes : List ℕ) (h : History) (len place : ℕ) (stands : List ℕ) → MayStand (after (gave bytes) h) len place stands → MayStand h len place stands
+before_text bytes h len place stands (kept e) = kept e
+before_text bytes h len place stands (asked a) = asked a
+before_text bytes h len place stands (invalid f) = invalid f
+
+-- nor on a moment that was told
+after_moment : (moment : ℕ) (h : History) (len place : ℕ) (stands : List ℕ) → MayStand h len place stands → MayStand (after (told_moment moment) h) len place stands
+after_moment moment h len place stands (kept e) = kept e
+after_moment moment h len place stands (asked a) = asked a
+after_moment moment h len place stands (invalid f) = invalid f
+
+module _ (old : List ℕ) (o : MakeOptions) where
+  -- so each image is left as well where a text was given
+  left_after_text : (bytes : List ℕ) (h : History) → LeavesByMaker old o.size (tree_for o) h → LeavesByMaker old o.size (tree_for o) (after (gave bytes) h)
+  left_after_text bytes h left = λ img is none.
+      left img (record { size = is.size; same = is.same }) (record { stands = λ place among within. before_text bytes h _ place _ (none.stands place among within) })
+
+  -- and before a moment was told
+  left_before_moment : (moment : ℕ) (h : History) → LeavesByMaker old o.size (tree_for o) (after (told_moment moment) h) → LeavesByMaker old o.size (tree_for o) h
+  left_before_moment moment h left = λ img is none.
+      left img (record { size = is.size; same = is.same }) (record { stands = λ place among within. after_moment moment h _ place _ (none.stands place among within) })
+
+  -- the moments of a run begin where the clock is asked
+  from_clock : (moment : ℕ) (a b : History) → HoldsThroughout (LeavesByMaker old o.size (tree_for o)) (after (told_moment moment) a) b → HoldsThroughout (LeavesByMaker old o.size (tree_for o)) a b
+  from_clock moment a b run =
+      let P : History → Type 0 = LeavesByMaker old o.size (tree_for o) in
+      let there = throughout_first P (after (told_moment moment) a) b run in
+      throughout_then P a (after (told_moment moment) a) b (throughout_more P a a (told_moment moment) (throughout_here P a (left_before_moment moment a there)) there) run
+
+-- ---- the maker's answer
+
+-- where the numbers are a volume's, the maker fails for the device alone
+pub fails_by_device : {P : Type 0} (o : MakeOptions) (g : Geometry) (answer : Result Made MakeFault) (fault : MakeFault) → answer ≡ Err fault → geometry_for o ≡ Ok g
+    → ((why : GeomFault) → answer ≡ Err (faults.Geom why) → geometry_for o ≡ Err why) → (answer ≡ Err faults.Device → P) → P
+fails_by_device o g answer (faults.Geom why) is volume geom device = absurd (cc (volume, geom why is))
+fails_by_device o g answer faults.Device is volume geom device = device is
+
+-- ---- where nothing was written yet
+
+-- the bytes themselves are left so
+is_left : (old : List ℕ) (o : MakeOptions) (pick : Pick) → active_area old ≡ pick → (pick ≡ picks.Disagree → ⊥) → IsLeftByMaker old (tree_for o) old
+is_left old o (picks.Active which) is agree = old_volume which is is refl (λ u. (λ x. x, λ x. x))
+is_left old o picks.None is agree = nothing is
+is_left old o picks.Disagree is agree = absurd (agree refl)
+
+-- and are all that a cut may leave
+left_at_rest : (o : MakeOptions) (h : History) → IsReadyToMake h → LeavesByMaker (bytes_of h) o.size (tree_for o) h
+left_at_rest o h ready = λ img is none.
+    subst (λ (bytes : List ℕ). IsLeftByMaker (bytes_of h) (tree_for o) bytes) (sym (image_settled h img ready.settled is)) (is_left (bytes_of h) o (active_area (bytes_of h)) refl ready.agree)
+
+-- a moment that was told leaves the device ready
+ready_later : (moment : ℕ) (h : History) → IsReadyToMake h → IsReadyToMake (after (told_moment moment) h)
+ready_later moment h ready = record { settled = record { quiet = ready.settled.quiet }; agree = ready.agree; alone = ready.alone }
+
+-- ---- what is said at the end
+
+-- a text was given, or nothing
+abbrev pub Spoke : History → History → Type 0
+Spoke a b = (b ≡ a) ⊎ ((bytes : List ℕ) × (b ≡ after (gave bytes) a))
+
+spoke_moments : (a b : History) → Spoke a b → moments_told b.deeds ≡ moments_told a.deeds
+spoke_moments a b (inl same) = ap (λ (h : History). moments_told h.deeds) same
+spoke_moments a b (inr said) = ap (λ (h : History). moments_told h.deeds) said.1
+
+spoke_lengths : (a b : History) → Spoke a b → lengths_asked b.deeds ≡ lengths_asked a.deeds
+spoke_lengths a b (inl same) = ap (λ (h : History). lengths_asked h.deeds) same
+spoke_lengths a b (inr said) = ap (λ (h : History). lengths_asked h.deeds) said.1
+
+spoke_left : (old : List ℕ) (o : MakeOptions) (first a b : History) → Spoke a b → HoldsThroughout (LeavesByMaker old o.size (tree_for o)) first a → HoldsThroughout (LeavesByMaker old o.size (tree_for o)) first b
+spoke_left old o first a b (inl same) run = subst (λ (h : History). HoldsThroughout (LeavesByMaker old o.size (tree_for o)) first h) (sym same) run
+spoke_left old o first a b (inr said) run =
+    subst (λ (h : History). HoldsThroughout (LeavesByMaker old o.size (tree_for o)) first h) (sym said.1)
+    (throughout_more (LeavesByMaker old o.size (tree_for o)) first a (gave said.0) run (left_after_text old o said.0 a (throughout_last (LeavesByMaker old o.size (tree_for o)) first a run)))
+
+-- a volume that was made stays made
+spoke_made : (o : MakeOptions) (g : Geometry) (old : List ℕ) (a b : History) → Spoke a b → HasMade o g old a → HasMade o g old b
+spoke_made o g old a b (inl same) m = subst (λ (h : History). HasMade o g old h) (sym same) m
+spoke_made o g old a b (inr said) m =
+    subst (λ (h : History). HasMade o g old h) (sym said.1)
+    (record { bytes = m.bytes; settled = record { quiet = m.settled.quiet }; active = m.active; superblock = m.superblock; sound = m.sound })
+
+-- ---- the run
+
+-- what is known before the last line is given
+pub record IsUnderway {H : Type 0} (tells : H → Bool) (history : H → History) (attached : H → Option (List Attachment)) (image : List ℕ) (size moment : ℕ) (old new : H) : Type 0 where
+  pub before : IsTrue (tells new) → IsTrue (tells old)
+  pub paths : Becomes (attached old) (attached new) (λ before now. now ≡ created image ∷ before)
+  pub clock : IsTrue (tells new) → moments_told (history new).deeds ≡ moment ∷ moments_told (history old).deeds
+  pub silent : IsTrue (tells new) → output (history new) ≡ output (history old)
+  pub any_moment : IsTrue (tells new) → IsReadyToMake (history old)
+      → HoldsThroughout (LeavesByMaker (bytes_of (history old)) size (tree_for (options_of size moment))) (history old) (history new)
+  pub lengths : IsTrue (tells new) → AsksOneLength size (history old) (history new)
+
+module _ {H : Type 0} (tells : H → Bool) (history : H → History) (attached : H → Option (List Attachment)) (image : List ℕ) (size moment : ℕ) where
+  -- the clock told a moment, and the image was asked to be attached
+  module _ (a b c : H) (asked_clock : Did tells history (told_moment moment) a b) (same : attached b ≡ attached a) (idle : Idles tells history b c)
+      (attach : Becomes (attached b) (attached c) (λ before now. now ≡ created image ∷ before)) where
+    pub begun : IsTrue (tells c) → history c ≡ after (told_moment moment) (history a)
+    begun t = idle.step t ∙ asked_clock.step (idle.before t)
+
+    became : Becomes (attached a) (attached c) (λ before now. now ≡ created image ∷ before)
+    became = subst (λ (before : Option (List Attachment)). Becomes before (attached c) (λ before now. now ≡ created image ∷ before)) same attach
+
+    pub attached_first : IsUnderway tells history attached image size moment a c
+    attached_first = record {
+      before = λ t. asked_clock.before (idle.before t);
+      paths = became;
+      clock = λ t. ap (λ (h : History). moments_told h.deeds) (begun t);
+      silent = λ t. ap output (begun t) ∙ append-nil (output (history a));
+      any_moment = λ t ready.
+          let o = options_of size moment in
+          let P : History → Type 0 = LeavesByMaker (bytes_of (history a)) size (tree_for o) in
+          subst (λ (h : History). HoldsThroughout P (history a) h) (sym (begun t))
+          (from_clock (bytes_of (history a)) o moment (history a) (after (told_moment moment) (history a)) (throughout_here P (after (told_moment moment) (history a)) (left_at_rest o (after (told_moment moment) (history a)) (ready_later moment (history a) ready))));
+      lengths = λ t. inl (ap (λ (h : History). lengths_asked h.deeds) (begun t));
+    }
+
+    -- and the maker was called
+    pub made_next : (o : MakeOptions) (d : H) → o ≡ options_of size moment → attached d ≡ attached c → MakesAtEachMoment tells history o c d
+        → (IsTrue (tells d) → AsksOneLength o.size (history c) (history d)) → (IsTrue (tells d) → KeepsQuiet (history c) (history d))
+        → IsUnderway tells history attached image size moment a d
+    made_next o d is there at_each lengths quiet = record {
+      before = λ t. attached_first.before (at_each.before t);
+      paths = subst (λ (now : Option (List Attachment)). Becomes (attached a) now (λ before now. now ≡ created image ∷ before)) (sym there) became;
+      clock = λ t. (quiet t).moments ∙ attached_first.clock (at_each.before t);
+      silent = λ t. (quiet t).given ∙ attached_first.silent (at_each.before t);
+      any_moment = λ t ready.
+          let e = begun (at_each.before t) in
+          let ready_then : IsReadyToMake (history c) = subst IsReadyToMake (sym e) (ready_later moment (history a) ready) in
+          subst (λ (o : MakeOptions). HoldsThroughout (LeavesByMaker (bytes_of (history a)) o.size (tree_for o)) (history a) (history d)) is
+          (from_clock (bytes_of (history a)) o moment (history a) (history d)
+          (subst (λ (h : History). HoldsThroughout (LeavesByMaker (bytes_of h) o.size (tree_for o)) h (history d)) e (at_each.step t ready_then)));
+      lengths = λ t. subst (λ (o : MakeOptions). AsksOneLength o.size (history a) (history d)) is (subst (λ (h : History). AsksOneLength o.size h (history d)) (begun (at_each.before t)) (lengths t));
+    }
+
+    -- the volume, in terms of the bytes at the start
+    pub made_of_start : (o : MakeOptions) (g : Geometry) (d : H) → o ≡ options_of size moment → (IsTrue (tells d) → IsTrue (tells c)) → (IsTrue (tells d) → HasMade o g (bytes_of (history c)) (history d))
+        → IsTrue (tells d) → HasMade (options_of size moment) g (bytes_of (history a)) (history d)
+    made_of_start o g d is before made t =
+        subst (λ (h : History). HasMade (options_of size moment) g (bytes_of h) (history d)) (begun (before t)) (subst (λ (o : MakeOptions). HasMade o g (bytes_of (history c)) (history d)) is (made t))
+
+  -- the last line
+  module _ (dev_faults : H → ℕ) (g : Geometry) (status : ℕ) (a d e : H) (under : IsUnderway tells history attached image size moment a d) (same : attached e ≡ attached d) where
+    spoke : (text : List ℕ) (owed : ℕ) → Says tells history text owed status d e → IsTrue (tells e) → Spoke (history d) (history e)
+    spoke text owed s t = elim (cases_eq status 4) [
+      | inl failed ↦ elim (s.cut failed t) [
+        | inl same ↦ inl same
+        | inr part ↦ inr (take part.0 text, part.2)
+      ]
+      | inr not_so ↦ inr (text, s.whole not_so t)
+    ]
+
+    whole_text : (text : List ℕ) (owed : ℕ) → Says tells history text owed status d e → status ≢ 4 → IsTrue (tells e) → output (history e) ≡ output (history a) ++ text
+    whole_text text owed s not_so t = ap output (s.whole not_so t) ∙ ap (λ (l : List ℕ). l ++ text) (under.silent (s.before t))
+
+    part_of_text : (text : List ℕ) (owed : ℕ) → Says tells history text owed status d e → status ≡ 4 → IsTrue (tells e) → AddsPartOf text (history a) (history e)
+    part_of_text text owed s failed t = elim (s.cut failed t) [
+      | inl same ↦ (0, omega arith, ap output same ∙ under.silent (s.before t) ∙ sym (append-nil _))
+      | inr part ↦ (part.0, part.1, ap output part.2 ∙ ap (λ (l : List ℕ). l ++ take part.0 text) (under.silent (s.before t)))
+    ]
+
+    ended : (text : List ℕ) (owed : ℕ) → Says tells history text owed status d e → (status ≡ owed) ⊎ (status ≡ 4)
+    ended text owed s = elim (cases_eq status 4) [ inl failed ↦ inr failed | inr not_so ↦ inl (s.owes not_so) ]
+
+    paths_end : Becomes (attached a) (attached e) (λ before now. now ≡ created image ∷ before)
+    paths_end = subst (λ (now : Option (List Attachment)). Becomes (attached a) now (λ before now. now ≡ created image ∷ before)) (sym same) under.paths
+
+    clock_end : (text : List ℕ) (owed : ℕ) → Says tells history text owed status d e → IsTrue (tells e) → moments_told (history e).deeds ≡ moment ∷ moments_told (history a).deeds
+    clock_end text owed s t = spoke_moments (history d) (history e) (spoke text owed s t) ∙ under.clock (s.before t)
+
+    lengths_end : (text : List ℕ) (owed : ℕ) → Says tells history text owed status d e → IsTrue (tells e) → AsksOneLength size (history a) (history e)
+    lengths_end text owed s t =
+        let l = spoke_lengths (history d) (history e) (spoke text owed s t) in
+        elim (under.lengths (s.before t)) [ inl none ↦ inl (l ∙ none) | inr one ↦ inr (l ∙ one) ]
+
+    left_end : (text : List ℕ) (owed : ℕ) → Says tells history text owed status d e → IsTrue (tells e) → IsReadyToMake (history a)
+        → HoldsThroughout (LeavesByMaker (bytes_of (history a)) size (tree_for (options_of size moment))) (history a) (history e)
+    left_end text owed s t ready = spoke_left (bytes_of (history a)) (options_of size moment) (history a) (history d) (history e) (spoke text owed s t) (under.any_moment (s.before t) ready)
+
+    -- it says that a device call failed
+    pub says_fault : Says tells history device_fault 3 status d e → Rose (dev_faults a) (dev_faults e) → MakesAt tells history attached dev_faults image size g moment status a e
+    says_fault s rose = record {
+      before = λ t. under.before (s.before t);
+      ends = inr (ended device_fault 3 s);
+      paths = paths_end;
+      clock = clock_end device_fault 3 s;
+      made = λ zero t. absurd (omega (arith, s.owes (omega arith)));
+      fault = λ three t. whole_text device_fault 3 s (omega arith) t;
+      cut = λ four t. inr (rose, part_of_text device_fault 3 s four t);
+      volume = λ zero t. absurd (omega (arith, s.owes (omega arith)));
+      any_moment = left_end device_fault 3 s;
+      lengths = lengths_end device_fault 3 s;
+    }
+
+    -- it says that the volume was made
+    pub says_made : Says tells history (made_line (made_of g)) 0 status d e → (IsTrue (tells d) → HasMade (options_of size moment) g (bytes_of (history a)) (history d)) → MakesAt tells history attached dev_faults image size g moment status a e
+    says_made s made =
+        let stays : IsTrue (tells e) → HasMade (options_of size moment) g (bytes_of (history a)) (history e) = λ t.
+        spoke_made (options_of size moment) g (bytes_of (history a)) (history d) (history e) (spoke (made_line (made_of g)) 0 s t) (made (s.before t)) in
+        record {
+          before = λ t. under.before (s.before t);
+          ends = elim (ended (made_line (made_of g)) 0 s) [ inl zero ↦ inl zero | inr four ↦ inr (inr four) ];
+          paths = paths_end;
+          clock = clock_end (made_line (made_of g)) 0 s;
+          made = λ zero t. whole_text (made_line (made_of g)) 0 s (omega arith) t;
+          fault = λ three t. absurd (omega (arith, s.owes (omega arith)));
+          cut = λ four t. inl (stays t, part_of_text (made_line (made_of g)) 0 s four t);
+          volume = λ zero t. stays t;
+          any_moment = left_end (made_line (made_of g)) 0 s;
+          lengths = lengths_end (made_line (made_of g)) 0 s;
+        }
