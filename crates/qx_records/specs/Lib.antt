@@ -2,3 +2,4 @@ pub use Rattle.qx_fields.specs.Number
 pub mod NameSum
 pub mod InodeRecord
 pub mod NameRecord
+pub mod KindNumber
