@@ -4,4 +4,5 @@ pub mod InodeRecord
 pub mod NameRecord
 pub mod WrittenInode
 pub mod WrittenNames
+pub mod Slots
 pub mod KindNumber

@@ -1,10 +1,12 @@
 //! What the format works out of long names' checksums, and that what is written is read back.
-ghost use Rattle.std.specs.Prelude.{◌≡◌, ℕ, ◌+◌, ◌^◌, ◌<◌, ◌≤◌, List, [], ◌∷◌, length, replicate, Some};
+ghost use Rattle.std.specs.Prelude.{◌≡◌, ◌≢◌, ℕ, ◌+◌, ◌*◌, ◌/◌, ◌^◌, ◌<◌, ◌≤◌, List, [], ◌∷◌, length, replicate, slice_get, Some};
+ghost use Rattle.qx_bytes.specs.Ranges.{put_at};
 ghost use Rattle.qx_fields.specs.declared.order.Order.{Order};
 ghost use Rattle.qx_records.specs.declared.inode.Inode.{Inode};
 ghost use Rattle.qx_records.specs.InodeRecord.{inode_in};
 ghost use Rattle.qx_records.specs.NameRecord.{Long, Short, Unused, raw_in, long_name_in};
 ghost use Rattle.qx_records.specs.NameSum.{name_sum_of, name_sum_signed_of};
+ghost use Rattle.qx_records.specs.Slots.{record_at, records_in};
 ghost use Rattle.qx_records.specs.WrittenInode.{inode_bytes, FitsInode};
 ghost use Rattle.qx_records.specs.WrittenNames.{short_bytes, long_bytes, long_name_bytes};
 
@@ -38,4 +40,19 @@ pub fn a_long_name_is_read_back()
         → long_name_in order (long_name_bytes order size name) ≡ Some name }
     ensures long { (order : Order) (size : ℕ) (name : List ℕ) → 2 + length name ≤ size
         → length (long_name_bytes order size name) ≡ size }
+{}
+
+/// A block has a record for each 32 of its bytes, in their order.
+pub fn the_records_of_a_block()
+    ensures count { (order : Order) (block : List ℕ) → length (records_in order block) ≡ length block / 32 }
+    ensures each { (order : Order) (block : List ℕ) (place : ℕ) → place < length block / 32
+        → slice_get (records_in order block) place ≡ Some (record_at order block place) }
+{}
+
+/// A record that is put at its place stands there, and every other stays.
+pub fn a_record_that_is_put_changes_no_other()
+    ensures itself { (order : Order) (block bytes : List ℕ) (place : ℕ) → length bytes ≡ 32 → place * 32 + 32 ≤ length block
+        → record_at order (put_at block (place * 32) bytes) place ≡ record { place = place; raw = raw_in order bytes } }
+    ensures others { (order : Order) (block bytes : List ℕ) (place other : ℕ) → length bytes ≡ 32 → place * 32 + 32 ≤ length block → other ≢ place
+        → record_at order (put_at block (place * 32) bytes) other ≡ record_at order block other }
 {}

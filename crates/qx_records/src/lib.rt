@@ -5,6 +5,7 @@
 //! It keeps no state, takes no memory, and lends names as the very bytes that it was lent.
 #![tactic(auto)]
 
+mod directory;
 mod examples;
 mod inode;
 mod kind;
@@ -14,13 +15,15 @@ mod permissions;
 mod rows;
 mod sums;
 
+pub use directory::{Record, Records, Slot, slot_at};
 pub use examples::{
     the_inode_of_counted_bytes, the_kinds_of_modes, the_long_names_of_leaves, the_records_of_bytes,
 };
 pub use inode::{Inode, InodeView, write_inode};
 pub use kind::{Kind, kind_number};
 pub use laws::{
-    a_long_name_is_read_back, a_row_is_read_back, an_inode_is_read_back, the_sum_of_a_name,
+    a_long_name_is_read_back, a_record_that_is_put_changes_no_other, a_row_is_read_back,
+    an_inode_is_read_back, the_records_of_a_block, the_sum_of_a_name,
 };
 pub use long_name::{LongView, write_long_name};
 pub use permissions::Permissions;

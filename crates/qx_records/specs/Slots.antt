@@ -1,0 +1,55 @@
+-- The directory records of a block of bytes, as a reader that lends their names gives them.
+use Rattle.std.specs.Prelude.{ℕ, Bool, true, false, ◌+◌, ◌-◌, ◌*◌, ◌/◌, ◌≡◌, List, length, map, slice_range}
+use Rattle.std.specs.List.{range_with_len}
+use Rattle.qx_fields.specs.declared.order.Order.{Order}
+use Rattle.qx_records.specs.NameRecord.{RawRecord, raw_in}
+use Rattle.qx_records.specs.NameRecord as raws
+use Rattle.qx_records.specs.declared.directory.Slot.{Slot}
+use Rattle.qx_records.specs.declared.directory.Slot.TheVariants as slots
+use Rattle.qx_records.specs.declared.directory.Record.{Record}
+
+-- what a slot says, with the bytes of its name
+abbrev pub raw_of : Slot → RawRecord
+raw_of slots.Unused = raws.Unused
+raw_of (slots.Short inode name) = raws.Short inode name.now
+raw_of (slots.Long inode number sum) = raws.Long inode number sum
+raw_of (slots.Bad count) = raws.Bad count
+
+-- the inode and the length of a record aren't 0
+abbrev pub is_used : RawRecord → Bool
+is_used raws.Unused = false
+is_used (raws.Short inode name) = true
+is_used (raws.Long inode number sum) = true
+is_used (raws.Bad count) = true
+
+-- a record of a block: which it is, and what it says
+pub record PlacedRecord : Type 0 where
+  pub place : ℕ
+  pub raw : RawRecord
+
+-- what an item of the records of a block says
+abbrev pub placed_of : Record → PlacedRecord
+placed_of item = record { place = item.place; raw = raw_of item.slot }
+
+-- the record of a block at a place, counted in records
+abbrev pub record_at : Order → List ℕ → ℕ → PlacedRecord
+record_at order block place = record { place = place; raw = raw_in order (slice_range block (place * 32) (place * 32 + 32)) }
+
+-- those from a place on
+unfoldable pub records_from : Order → List ℕ → ℕ → List PlacedRecord
+records_from order block place = map (record_at order block) (range_with_len place (length block / 32 - place))
+
+-- all of them
+abbrev pub records_in : Order → List ℕ → List PlacedRecord
+records_in order block = records_from order block 0
+
+-- a slot's name is those bytes of the block that stand behind the length of the record at a place
+abbrev pub LendsName : List ℕ → ℕ → Slot → Type 0
+LendsName block place (slots.Short inode name) = name.now ≡ slice_range block (place * 32 + 5) (place * 32 + 5 + length name.now)
+LendsName block place slots.Unused = Unit {0}
+LendsName block place (slots.Long inode number sum) = Unit {0}
+LendsName block place (slots.Bad count) = Unit {0}
+
+-- a record is in use: it is a row, or has a length that means nothing
+abbrev pub is_in_use : PlacedRecord → Bool
+is_in_use item = is_used item.raw
