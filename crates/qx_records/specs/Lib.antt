@@ -6,3 +6,4 @@ pub mod WrittenInode
 pub mod WrittenNames
 pub mod Slots
 pub mod KindNumber
+pub mod PermissionBits

@@ -9,11 +9,11 @@ use Rattle.qx_records.specs.declared.directory.Slot.TheVariants as slots
 use Rattle.qx_records.specs.declared.directory.Record.{Record}
 
 -- what a slot says, with the bytes of its name
-abbrev pub raw_of : Slot → RawRecord
-raw_of slots.Unused = raws.Unused
-raw_of (slots.Short inode name) = raws.Short inode name.now
-raw_of (slots.Long inode number sum) = raws.Long inode number sum
-raw_of (slots.Bad count) = raws.Bad count
+abbrev pub raw_of_slot : Slot → RawRecord
+raw_of_slot slots.Unused = raws.Unused
+raw_of_slot (slots.Short inode name) = raws.Short inode name.now
+raw_of_slot (slots.Long inode number sum) = raws.Long inode number sum
+raw_of_slot (slots.Bad count) = raws.Bad count
 
 -- the inode and the length of a record aren't 0
 abbrev pub is_used : RawRecord → Bool
@@ -29,7 +29,7 @@ pub record PlacedRecord : Type 0 where
 
 -- what an item of the records of a block says
 abbrev pub placed_of : Record → PlacedRecord
-placed_of item = record { place = item.place; raw = raw_of item.slot }
+placed_of item = record { place = item.place; raw = raw_of_slot item.slot }
 
 -- the record of a block at a place, counted in records
 abbrev pub record_at : Order → List ℕ → ℕ → PlacedRecord

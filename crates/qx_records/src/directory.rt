@@ -1,7 +1,7 @@
 //! The records of a block of a directory, whose names are lent.
 ghost use Rattle.std.specs.Prelude.{◌≡◌, ◌+◌, ◌*◌, ◌≤◌, length, slice_range};
 ghost use Rattle.qx_records.specs.NameRecord.{raw_in};
-ghost use Rattle.qx_records.specs.Slots.{raw_of, placed_of, LendsName};
+ghost use Rattle.qx_records.specs.Slots.{raw_of_slot, placed_of, LendsName};
 
 use qx_fields::{Order, get32};
 use std::marker::Model;
@@ -30,7 +30,7 @@ pub struct Record<'a> {
 /// The record of a block at a place, counted in records of 32 bytes.
 pub fn slot_at<'a>(block: &'a [u8], order: Order, place: usize) -> Slot<'a>
     requires { place * 32 + 32 ≤ length block.now }
-    ensures said { raw_of result ≡ raw_in order (slice_range block.now (place * 32) (place * 32 + 32)) }
+    ensures said { raw_of_slot result ≡ raw_in order (slice_range block.now (place * 32) (place * 32 + 32)) }
     ensures lends { LendsName block.now place result }
 {
     slot_in(&block[place * 32..place * 32 + 32], order)
@@ -40,7 +40,7 @@ pub fn slot_at<'a>(block: &'a [u8], order: Order, place: usize) -> Slot<'a>
 #[tactic(auto, unfolding(crate::specs::NameRecord::raw_in))]
 fn slot_in<'a>(bytes: &'a [u8], order: Order) -> Slot<'a>
     requires { length bytes.now ≡ 32 }
-    ensures said { raw_of result ≡ raw_in order bytes.now }
+    ensures said { raw_of_slot result ≡ raw_in order bytes.now }
     ensures lends { LendsName bytes.now 0 result }
 {
     let inode = get32(order, bytes, 0);

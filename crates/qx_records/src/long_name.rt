@@ -6,7 +6,7 @@ ghost use Rattle.qx_records.specs.WrittenNames.{long_name_bytes};
 
 use qx_fields::{Order, get16, put16};
 
-/// How long names stand in leaves of the Longfile.
+/// The reader of the long names that stand in leaves of the Longfile.
 #[derive(Drop)]
 pub struct LongView;
 

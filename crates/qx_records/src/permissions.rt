@@ -1,5 +1,6 @@
 //! The permissions in a mode.
-ghost use Rattle.std.specs.Prelude.{⊤, ◌≡◌, ◌+◌, ◌*◌, ◌/◌, ◌%◌, ◌<◌, ◌^◌, [], ◌∷◌, codes};
+ghost use Rattle.std.specs.Prelude.{⊤, ◌≡◌, ◌+◌, ◌*◌, ◌/◌, ◌%◌};
+ghost use Rattle.qx_records.specs.PermissionBits.{permission_bits};
 
 use bitflags::{Flag, Flags, bitflag_items};
 
@@ -29,7 +30,7 @@ impl Flags for Permissions {
 
     ghost exact = { ⊤ };
 
-    ghost table = { (codes "SET_USER_ID", 2048) ∷ (codes "SET_GROUP_ID", 1024) ∷ (codes "STICKY", 512) ∷ (codes "USER_READ", 256) ∷ (codes "USER_WRITE", 128) ∷ (codes "USER_EXECUTE", 64) ∷ (codes "GROUP_READ", 32) ∷ (codes "GROUP_WRITE", 16) ∷ (codes "GROUP_EXECUTE", 8) ∷ (codes "OTHER_READ", 4) ∷ (codes "OTHER_WRITE", 2) ∷ (codes "OTHER_EXECUTE", 1) ∷ [] };
+    ghost table = { permission_bits };
 
     ghost set_of = { λ p. p.0 };
 
