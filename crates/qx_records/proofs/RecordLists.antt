@@ -1,5 +1,5 @@
 -- The records of a block, one after another.
-use Rattle.std.proofs.Common.{◌≡◌, ℕ, suc, ◌+◌, ◌-◌, ◌*◌, ◌/◌, ◌<◌, ◌≤◌, ◌≢◌, ◌⊎◌, Option, Some, option_map, get_or, List, [], ◌∷◌, length, map, drop, ap, ◌∙◌, arith, length-take, length-drop}
+use Rattle.std.proofs.Common.{Bor, ◌≡◌, ℕ, suc, ◌+◌, ◌-◌, ◌*◌, ◌/◌, ◌<◌, ◌≤◌, ◌≢◌, ◌⊎◌, Option, Some, option_map, get_or, List, [], ◌∷◌, length, map, drop, ap, ◌∙◌, arith, length-take, length-drop}
 use Rattle.std.specs.Prelude.{slice_range, slice_get}
 use Rattle.std.specs.List.{range_with_len, replace_range}
 use Rattle.std.proofs.lemmas.List.FromFn.{length-range_with_len, get_or-range_with_len, length-map-range_with_len}
@@ -66,16 +66,21 @@ module _ (order : Order) (block bytes : List ℕ) (place : ℕ) (whole : length 
       ∙ ap (λ (l : List ℕ). record { place = other; raw = raw_in order l })
       (range_put_apart block bytes (place * 32) 32 (other * 32) 32 whole (before_or_behind place other apart) (omega arith))
 
--- a name that the 32 bytes of a record lend is one that the block lends
-pub LendsName-range : (block : List ℕ) (place : ℕ) (slot : Slot) → place * 32 + 32 ≤ length block → LendsName (slice_range block (place * 32) (place * 32 + 32)) 0 slot → LendsName block place slot
-LendsName-range block place slots.Unused within lent = tt
-LendsName-range block place (slots.Short inode name) within lent =
-    let bytes = slice_range block (place * 32) (place * 32 + 32) in
+-- a name that is lent from the 32 bytes of a record is lent from the block
+pub LendsName-range : (block range : Bor (List ℕ)) (begin : ℕ) (slot : Slot) → begin + 32 ≤ length block.now → range.ref_ptr.0 ≡ block.ref_ptr.0 → range.ref_ptr.1 ≡ block.ref_ptr.1 + begin → range.now ≡ slice_range block.now begin (begin + 32) → LendsName range 0 slot → LendsName block begin slot
+LendsName-range block range begin slots.Unused within memory address bytes lent = tt
+LendsName-range block range begin (slots.Short inode name) within memory address bytes lent =
     let count = length name.now in
-    let whole : length bytes ≡ 32 = omega (arith, length-take (place * 32 + 32 - place * 32) (drop (place * 32) block), length-drop (place * 32) block) in
-    let long : count ≡ length (slice_range bytes 5 (5 + count)) = ap (λ (l : List ℕ). length l) lent in
-    let short : 5 + count ≤ 32 = omega (arith, length-take (5 + count - 5) (drop 5 bytes), length-drop 5 bytes) in
-    lent ∙ range_range block (place * 32) (place * 32 + 32) 5 (5 + count) (omega arith)
-    ∙ ap (λ (to : ℕ). slice_range block (place * 32 + 5) to) (let e : place * 32 + (5 + count) ≡ place * 32 + 5 + count = omega arith in e)
-LendsName-range block place (slots.Long inode number sum) within lent = tt
-LendsName-range block place (slots.Bad count) within lent = tt
+    let whole : length range.now ≡ 32 = ap (λ (l : List ℕ). length l) bytes ∙ (let e : length (slice_range block.now begin (begin + 32)) ≡ 32 = omega (arith, length-take (begin + 32 - begin) (drop begin block.now), length-drop begin block.now) in e) in
+    let taken : count ≡ length (slice_range range.now 5 (5 + count)) = ap (λ (l : List ℕ). length l) lent.bytes in
+    let short : 5 + count ≤ 32 = omega (arith, length-take (5 + count - 5) (drop 5 range.now), length-drop 5 range.now) in
+    record {
+      memory = lent.memory ∙ memory;
+      address = omega (arith, lent.address, address);
+      bytes = lent.bytes
+          ∙ ap (λ (l : List ℕ). slice_range l 5 (5 + count)) bytes
+          ∙ range_range block.now begin (begin + 32) 5 (5 + count) (omega arith)
+          ∙ ap (λ (to : ℕ). slice_range block.now (begin + 5) to) (let e : begin + (5 + count) ≡ begin + 5 + count = omega arith in e);
+    }
+LendsName-range block range begin (slots.Long inode number sum) within memory address bytes lent = tt
+LendsName-range block range begin (slots.Bad count) within memory address bytes lent = tt

@@ -4,6 +4,7 @@ pub mod InodeRecord
 pub mod NameRecord
 pub mod WrittenInode
 pub mod WrittenNames
+pub mod Lent
 pub mod Slots
 pub mod KindNumber
 pub mod PermissionBits

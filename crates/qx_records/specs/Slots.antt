@@ -1,7 +1,9 @@
 -- The directory records of a block of bytes, as a reader that lends their names gives them.
-use Rattle.std.specs.Prelude.{ℕ, Bool, true, false, ◌+◌, ◌-◌, ◌*◌, ◌/◌, ◌≡◌, List, length, map, slice_range}
+use Rattle.std.specs.Prelude.{ℕ, Bool, true, false, ◌+◌, ◌-◌, ◌*◌, ◌/◌, List, length, map, slice_range}
 use Rattle.std.specs.List.{range_with_len}
+use Rattle.std.specs.Borrow.{Bor}
 use Rattle.qx_fields.specs.declared.order.Order.{Order}
+use Rattle.qx_records.specs.Lent.{IsLentFrom}
 use Rattle.qx_records.specs.NameRecord.{RawRecord, raw_in}
 use Rattle.qx_records.specs.NameRecord as raws
 use Rattle.qx_records.specs.declared.directory.Slot.{Slot}
@@ -43,12 +45,12 @@ records_from order block place = map (record_at order block) (range_with_len pla
 abbrev pub records_in : Order → List ℕ → List PlacedRecord
 records_in order block = records_from order block 0
 
--- a slot's name is those bytes of the block that stand behind the length of the record at a place
-abbrev pub LendsName : List ℕ → ℕ → Slot → Type 0
-LendsName block place (slots.Short inode name) = name.now ≡ slice_range block (place * 32 + 5) (place * 32 + 5 + length name.now)
-LendsName block place slots.Unused = Unit {0}
-LendsName block place (slots.Long inode number sum) = Unit {0}
-LendsName block place (slots.Bad count) = Unit {0}
+-- a slot's name, if it has one, is the block's own bytes behind the length of the record that begins here
+abbrev pub LendsName : Bor (List ℕ) → ℕ → Slot → Type 0
+LendsName block begin (slots.Short inode name) = IsLentFrom block (begin + 5) name
+LendsName block begin slots.Unused = Unit {0}
+LendsName block begin (slots.Long inode number sum) = Unit {0}
+LendsName block begin (slots.Bad count) = Unit {0}
 
 -- a record is in use: it is a row, or has a length that means nothing
 abbrev pub is_in_use : PlacedRecord → Bool

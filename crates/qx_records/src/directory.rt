@@ -31,7 +31,7 @@ pub struct Record<'a> {
 pub fn slot_at<'a>(block: &'a [u8], order: Order, place: usize) -> Slot<'a>
     requires { place * 32 + 32 ≤ length block.now }
     ensures said { raw_of_slot result ≡ raw_in order (slice_range block.now (place * 32) (place * 32 + 32)) }
-    ensures lends { LendsName block.now place result }
+    ensures lends { LendsName block.entry (place * 32) result }
 {
     slot_in(&block[place * 32..place * 32 + 32], order)
 }
@@ -41,7 +41,7 @@ pub fn slot_at<'a>(block: &'a [u8], order: Order, place: usize) -> Slot<'a>
 fn slot_in<'a>(bytes: &'a [u8], order: Order) -> Slot<'a>
     requires { length bytes.now ≡ 32 }
     ensures said { raw_of_slot result ≡ raw_in order bytes.now }
-    ensures lends { LendsName bytes.now 0 result }
+    ensures lends { LendsName bytes.entry 0 result }
 {
     let inode = get32(order, bytes, 0);
     let length = bytes[4];

@@ -1,6 +1,7 @@
 //! A long name, read and written.
-ghost use Rattle.std.specs.Prelude.{◌≡◌, ◌<◌, ◌≤◌, length, Some};
+ghost use Rattle.std.specs.Prelude.{◌≡◌, ◌<◌, ◌≤◌, length, Some, IfSome};
 ghost use Rattle.std.specs.Option.{option_copied};
+ghost use Rattle.qx_records.specs.Lent.{IsLentFrom};
 ghost use Rattle.qx_records.specs.NameRecord.{long_name_in};
 ghost use Rattle.qx_records.specs.WrittenNames.{long_name_bytes};
 
@@ -15,7 +16,8 @@ impl LongView {
     #[tactic(auto, unfolding(crate::specs::NameRecord::long_name_in))]
     pub fn read<'a>(leaf: &'a [u8], order: Order) -> Option<&'a [u8]>
         requires { 512 ≤ length leaf.now }
-        ensures { option_copied result ≡ long_name_in order leaf.now }
+        ensures name { option_copied result ≡ long_name_in order leaf.now }
+        ensures lends { IfSome result (IsLentFrom leaf.entry 2) }
     {
         let length = usize::from(get16(order, leaf, 0));
         if length == 0 || length > 510 {
