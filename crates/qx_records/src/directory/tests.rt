@@ -1,4 +1,4 @@
-ghost use Rattle.std.specs.Prelude.{◌≡◌, ◌%◌, length, count_by};
+ghost use Rattle.std.specs.Prelude.{◌≡◌, ◌%◌, length, count_by, find, not, option_map};
 ghost use Rattle.qx_records.specs.Slots.{is_in_use, records_in};
 
 use super::*;
@@ -16,6 +16,19 @@ fn used_records(block: &[u8], order: Order) -> usize
         }
     }
     used
+}
+
+/// The place of the first record of a block that is not in use: a loop that ends early.
+fn first_unused(block: &[u8], order: Order) -> Option<usize>
+    requires { length block.now % 32 ≡ 0 }
+    ensures { result ≡ option_map (λ item. item.place) (find (λ item. not (is_in_use item)) (records_in order block.now)) }
+{
+    for record in Records::new(block, order) {
+        if let Slot::Unused = record.slot {
+            return Some(record.place);
+        }
+    }
+    None
 }
 
 /// Bytes by the format's table of a directory record, packed by a script that has no part of this crate.
@@ -123,5 +136,6 @@ fn the_records_of_a_block_come_in_their_order(rt: HostRuntime) {
     }
     assert_eq!(rt; records.next(), None);
     assert_eq!(rt; used_records(block, Order::Big), 2);
+    assert_eq!(rt; first_unused(block, Order::Big), Some(1));
     assert_eq!(rt; Records::new(&[], Order::Little).next(), None);
 }
