@@ -74,6 +74,7 @@ fn the_shortest_volumes_are_made_whole_and_a_byte_less_is_too_short(
         (2048, 4096, Little, 1_110_016, [534, 18, 17], 0xB675_B697),
         (4096, 4096, Big, 1_150_976, [277, 17, 16], 0x9BBC_313E),
         (512, 8193, Little, 2_146_304, [4160, 22, 21], 0x64DA_C30A),
+        (512, 65536, Big, 16_945_152, [33064, 20, 19], 0xA60A_2C8B),
     ];
     for (blocksize, inodes, order, size, [blocks, user, free], sum) in cases {
         let options = asked(size, blocksize, inodes, order);

@@ -88,16 +88,19 @@ fn follow(device: &mut Vec<u8>, event: &Event) -> Result<(), Fail> {
 }
 
 /// Old devices, by name: their bytes, and where their blocks end.
-fn old_devices(alloc: Global) -> Result<[(&'static str, Vec<u8>, usize); 4], Fail> {
+fn old_devices(alloc: Global) -> Result<[(&'static str, Vec<u8>, usize); 5], Fail> {
     let short = asked(40960, 1024, 16, Big);
     let long = asked(102_400, 4096, 16, Big);
     let (_, short_volume) = made_over(alloc, &[], &short)?;
     let (_, long_volume) = made_over(alloc, &[], &long)?;
+    let mut one_area = short_volume.as_slice().to_vec(alloc)?;
+    put(&mut one_area, 36864, &[0; 512]);
     Ok([
         ("empty", Vec::new(alloc), 0),
         ("no volume", device_of(alloc, 65536, 0xA5)?, 0),
         ("a shorter volume", short_volume, 36864),
         ("a longer volume", long_volume, 98304),
+        ("a volume of its first area alone", one_area, 36864),
     ])
 }
 
@@ -108,7 +111,8 @@ fn a_failed_call_is_a_device_fault_and_leaves_no_volume_or_a_whole_one(
     let alloc = rt.alloc();
     let options = asked(65536, 512, 16, Little);
     // How many calls leave the old volume where they fail, up to which there is nothing, and how many there are.
-    let counts = [(0, 9, 11), (0, 12, 14), (5, 14, 16), (5, 14, 16)];
+    let volume = (5, 14, 16);
+    let counts = [(0, 9, 11), (0, 12, 14), volume, volume, volume];
     for ((name, old, old_end), (to_old, to_nothing, calls)) in old_devices(alloc)?
         .into_iter()
         .zip(counts)
@@ -139,7 +143,8 @@ fn a_cut_after_any_event_leaves_no_volume_or_a_whole_one(rt: HostRuntime) -> Res
     let alloc = rt.alloc();
     let options = asked(65536, 512, 16, Little);
     // How many events leave the old volume, up to which there is nothing, and how many there are.
-    let counts = [(0, 8, 10), (0, 9, 11), (3, 11, 13), (3, 11, 13)];
+    let volume = (3, 11, 13);
+    let counts = [(0, 8, 10), (0, 9, 11), volume, volume, volume];
     for ((name, old, old_end), (to_old, to_nothing, events)) in old_devices(alloc)?
         .into_iter()
         .zip(counts)
