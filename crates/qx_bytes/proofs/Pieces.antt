@@ -1,8 +1,8 @@
 -- Bytes that are joined from pieces of known widths: where each piece stands, and how a put fills the next one.
-use Rattle.std.proofs.Common.{◌≡◌, ℕ, zero, suc, ◌+◌, ◌-◌, ◌<◌, ◌≤◌, List, [], ◌∷◌, ◌++◌, length, take, drop, refl, ap, sym, ◌∙◌, arith, append_assoc, length-append}
-use Rattle.std.specs.Prelude.{slice_range}
+use Rattle.std.proofs.Common.{◌≡◌, ℕ, zero, suc, ◌+◌, ◌-◌, ◌<◌, ◌≤◌, List, [], ◌∷◌, ◌++◌, length, take, drop, get_or, set, refl, ap, sym, ◌∙◌, arith, append_assoc, length-append, length-drop}
+use Rattle.std.specs.Prelude.{slice_range, slice_index}
 use Rattle.std.specs.List.{replace_range}
-use Rattle.std.proofs.lemmas.List.{take_at, drop-drop}
+use Rattle.std.proofs.lemmas.List.{take_at, drop-drop, get_or-take, get_or-drop, set-append_right}
 use Rattle.std.proofs.Math.Seq.{drop-append-add, take-append-add}
 
 -- so many bytes
@@ -101,3 +101,28 @@ fill_part k ps rest old part within before now =
     ap (λ (l : List ℕ). take from old ++ (part ++ l)) (drop-drop (to - from) from old ∙ ap (λ (i : ℕ). drop i old) end)
     ∙ sym (append_assoc (take from old) part (drop to old))
     ∙ fill_next k ps rest old (replace_range old from to part) within before (ap (λ (l : List ℕ). replace_range old from to l) now)
+
+-- a byte in the place of the next piece, which is this byte alone
+set_next : (k : ℕ) (ps : List Piece) (rest : List ℕ) (x : ℕ) → k < length ps → bytes_of k ps ≡ x ∷ [] → place_of k ps < length rest → set (filled k ps rest) (place_of k ps) x ≡ filled (suc k) ps rest
+set_next k [] rest x within alone room = absurd (omega arith)
+set_next zero (p ∷ ps) [] x within alone room = absurd (omega arith)
+set_next zero (p ∷ ps) (r ∷ rest) x within alone room =
+    let one : 1 ≡ p.wide = sym (ap (λ (l : List ℕ). length l) alone) ∙ p.long in
+    ap (λ (n : ℕ). (x ∷ []) ++ drop n (r ∷ rest)) one ∙ ap (λ (l : List ℕ). l ++ drop p.wide (r ∷ rest)) (sym alone)
+set_next (suc k) (p ∷ ps) rest x within alone room =
+    let behind = filled k ps (drop p.wide rest) in
+    let further : p.wide + place_of k ps - p.wide ≡ place_of k ps = omega arith in
+    set-append_right p.bytes behind p.wide (p.wide + place_of k ps) x p.long (omega arith)
+    ∙ ap (λ (n : ℕ). p.bytes ++ set behind n x) further
+    ∙ ap (λ (l : List ℕ). p.bytes ++ l) (set_next k ps (drop p.wide rest) x (omega arith) alone (omega (arith, length-drop p.wide rest)))
+
+-- a byte that is set fills in the next piece, if that is this byte alone
+pub fill_byte : (k : ℕ) (ps : List Piece) (rest old : List ℕ) (x : ℕ) → k < length ps → bytes_of k ps ≡ x ∷ [] → place_of k ps < length rest → old ≡ filled k ps rest → set old (place_of k ps) x ≡ filled (suc k) ps rest
+fill_byte k ps rest old x within alone room before =
+    ap (λ (l : List ℕ). set l (place_of k ps) x) before ∙ set_next k ps rest x within alone room
+
+-- where a range of one byte begins, this byte stands
+pub byte_of_range : (bytes : List ℕ) (at x : ℕ) → slice_range bytes at (at + 1) ≡ x ∷ [] → slice_index bytes at ≡ x
+byte_of_range bytes at x range =
+    sym (get_or-drop at bytes 0 0 ∙ ap (λ (i : ℕ). get_or bytes i 0) (let e : at + 0 ≡ at = omega arith in e))
+    ∙ sym (get_or-take (at + 1 - at) (drop at bytes) 0 0 (omega arith)) ∙ ap (λ (l : List ℕ). get_or l 0 0) range

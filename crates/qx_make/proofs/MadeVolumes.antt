@@ -3,11 +3,11 @@ use Rattle.std.proofs.Common.{◌≡◌, ℕ, ◌<◌, ◌≤◌, ◌^◌, inl, 
 use Rattle.qx_geom.specs.declared.area.Which.{Which}
 use Rattle.qx_geom.specs.declared.area.Which.TheVariants.{Second}
 use Rattle.qx_geom.specs.declared.geometry.Geometry.{Geometry}
+use Rattle.qx_geom.specs.Area.{area_number}
 use Rattle.qx_geom.specs.Layout.{IsGeometry, geometry_of, whole_length}
 use Rattle.qx_geom.proofs.VolumeNumbers.{IsGeometry-of, geometry_of-numbers}
 use Rattle.qx_model.specs.EmptyTree.{empty_tree}
 use Rattle.qx_model.specs.Tree.{Tree}
-use Rattle.qx_nodes.specs.BlockMap.{BlockMap}
 use Rattle.qx_outside.specs.Puts.{IsAtRest}
 use Rattle.qx_outside.specs.Trail.{Deed, History, took, gave, wrote, synced, sized, told_moment, bytes_of, events_of, input_of, lengths_asked, others_of, output_of, resized}
 use Rattle.qx_outside.proofs.OtherDeeds.{input-others, lengths-others, output-others}
@@ -18,8 +18,9 @@ use Rattle.qx_super.specs.declared.choice.Pick.TheVariants as picks
 use Rattle.qx_super.specs.Active.{active_area, active_super}
 use Rattle.qx_super.specs.Superblock.{Superblock}
 use Rattle.qx_super.specs.Written.{superblock_written}
-use Rattle.qx_view.specs.Images.{image_blocks, main_roots}
+use Rattle.qx_view.specs.Images.{image_blocks}
 use Rattle.qx_view.specs.Reading.{IsTreeOf}
+use Rattle.qx_view.specs.Sound.{IsSound}
 use Rattle.qx_make.specs.declared.options.MakeOptions.{MakeOptions}
 use Rattle.qx_make.specs.Blocks.{AreMade}
 use Rattle.qx_make.specs.Cut.{IsLeftByMaker, IsReadyToMake, LeavesByMaker, nothing, old_volume, places_of}
@@ -28,7 +29,7 @@ use Rattle.qx_make.specs.NewVolume.{made_superblock, new_roots}
 use Rattle.qx_make.specs.Stages.{AsksOneLength, IsInStage, MakesAll, MayAskOneLength, made_bytes, make_stages, old_places, rest_stage, zeroed}
 use Rattle.qx_make.specs.Superblocks.{made_super}
 use Rattle.qx_make.proofs.BytesAt.{length-resized}
-use Rattle.qx_make.proofs.NewBlocks.{blocks_are, new_blocks}
+use Rattle.qx_make.proofs.NewBlocks.{new_blocks}
 use Rattle.qx_make.proofs.NewSoundness.{new_last, new_reason}
 use Rattle.qx_make.proofs.NewTrees.{new_tree_is}
 use Rattle.qx_make.proofs.TornAreas.{torn_rest}
@@ -113,12 +114,23 @@ module _ (o : MakeOptions) (g : Geometry) (is_geometry : geometry_for o ≡ Ok g
   some_user = IsGeometry-of o.size o.blocksize o.inodes g is_geometry
 
   module _ (in_time : o.moment < 2 ^ 32) where
-    -- what the maker writes means the empty tree
-    new_tree : (m : BlockMap) (which : Which) → AreMade g o.order o.moment m → IsTreeOf m (main_roots (superblock_written (made_super g o.order o.moment which))) (tree_for o)
+    -- an image with what the maker writes is sound, with the empty tree
+    new_sound : (img : List ℕ) (which : Which) → length img ≡ o.size → active_area img ≡ picks.Active which → active_super img ≡ Some (superblock_written (made_super g o.order o.moment which))
+        → AreMade g o.order o.moment (image_blocks img (superblock_written (made_super g o.order o.moment which))) → IsSound img (tree_for o)
     unfolding made_super
-    new_tree m which made =
-        subst (λ (t : Tree). IsTreeOf m (new_roots g which) t) same_tree
-        (subst (λ (b : BlockMap). IsTreeOf b (new_roots g which) (empty_tree g.blocksize g.num_inodes o.moment)) (blocks_are g o.order o.moment m some_user in_time made) (new_tree_is (new_blocks g o.order o.moment m some_user in_time made) which))
+    new_sound img which long active superblock made =
+        let s : Superblock = superblock_written (made_super g o.order o.moment which) in
+        let numbers : geometry_of (length img) g.blocksize g.num_inodes ≡ Ok g = ap (λ (n : ℕ). geometry_of n g.blocksize g.num_inodes) long ∙ own_numbers in
+        let b = new_blocks g o.order o.moment (image_blocks img s) some_user in_time made in
+        record {
+          area = which;
+          superblock = s;
+          active = active;
+          names = superblock;
+          tree = subst (λ (t : Tree). IsTreeOf (image_blocks img s) (new_roots g which) t) same_tree (new_tree_is b which);
+          no_reason = new_reason b which (area_number which) (length img) numbers;
+          no_last = new_last b which (area_number which) (length img) numbers;
+        }
 
     module _ {D : Type 0} (tells : D → Bool) (history : D → History) {T E : Type 0} where
       -- at each moment
@@ -129,7 +141,7 @@ module _ (o : MakeOptions) (g : Geometry) (is_geometry : geometry_for o ≡ Ok g
         step = λ told ready.
             let old = bytes_of (history a) in
             throughout_map (IsInStage (make_stages g o.order o.moment o.size old)) (LeavesByMaker old o.size (tree_for o))
-            (leaves_in_stage old o.size (tree_for o) ready.agree ready.alone g o.order o.moment own_numbers in_time new_tree) (history a) (history b)
+            (leaves_in_stage old o.size (tree_for o) ready.agree ready.alone g o.order o.moment own_numbers in_time new_sound) (history a) (history b)
             (made.reaches.step told (record { bytes_are = refl; settled = ready.settled }));
       }
 
@@ -145,20 +157,10 @@ module _ (o : MakeOptions) (g : Geometry) (is_geometry : geometry_for o ≡ Ok g
         let superblock : active_super img ≡ Some s = ap active_super rest.bytes_are ∙ v.superblock in
         let long : length img ≡ o.size = ap length rest.bytes_are ∙ v.size_is in
         let made : AreMade g o.order o.moment (image_blocks img s) = subst (λ (x : List ℕ). AreMade g o.order o.moment (image_blocks x s)) (sym rest.bytes_are) v.blocks in
-        let numbers : geometry_of (length img) g.blocksize g.num_inodes ≡ Ok g = ap (λ (n : ℕ). geometry_of n g.blocksize g.num_inodes) long ∙ own_numbers in
-        let b = new_blocks g o.order o.moment (image_blocks img s) some_user in_time made in
         record {
           bytes = rest.bytes_are;
           settled = rest.settled;
           active = active;
           superblock = superblock;
-          sound = record {
-            area = Second;
-            superblock = s;
-            active = active;
-            names = superblock;
-            tree = subst (λ (t : Tree). IsTreeOf (image_blocks img s) (new_roots g Second) t) same_tree (new_tree_is b Second);
-            no_reason = new_reason b Second 2 (length img) numbers;
-            no_last = new_last b Second 2 (length img) numbers;
-          };
+          sound = new_sound img Second long active superblock made;
         }

@@ -7,15 +7,14 @@ use Rattle.qx_geom.specs.declared.geometry.Geometry.{Geometry}
 use Rattle.qx_geom.specs.Layout.{IsGeometry, area_place, geometry_of, whole_length}
 use Rattle.qx_geom.proofs.SystemBlocks.{area_place-second}
 use Rattle.qx_geom.proofs.VolumeNumbers.{IsGeometry-of, geometry_of-numbers}
-use Rattle.qx_nodes.specs.BlockMap.{BlockMap}
 use Rattle.qx_model.specs.Tree.{Tree}
 use Rattle.qx_super.specs.declared.choice.Pick.TheVariants as picks
 use Rattle.qx_super.specs.Superblock.{Superblock}
 use Rattle.qx_super.specs.Written.{superblock_written}
 use Rattle.qx_super.specs.Active.{active_area, active_super, second_super}
 use Rattle.qx_super.proofs.ActiveAreas.{active-first_alone, active-second_alone, active-second_later}
-use Rattle.qx_view.specs.Images.{image_blocks, main_roots}
-use Rattle.qx_view.specs.Reading.{IsTreeOf}
+use Rattle.qx_view.specs.Images.{image_blocks}
+use Rattle.qx_view.specs.Sound.{IsSound}
 use Rattle.qx_make.specs.Blocks.{AreMade}
 use Rattle.qx_make.specs.Cut.{IsLeftByMaker, last_place, new_volume, nothing}
 use Rattle.qx_make.specs.Superblocks.{made_super}
@@ -81,16 +80,17 @@ module _ (g : Geometry) (order : Order) (moment size : ℕ) (is_geometry : geome
   both_active img first second =
       active-second_later img (made First) (made Second) first (second_super-named img first ∙ counts img second) (made-one_volume g own_geometry order moment in_time) (made-later g own_geometry order moment in_time)
 
-  module _ (old : List ℕ) (t : Tree) (new_tree : (m : BlockMap) (which : Which) → AreMade g order moment m → IsTreeOf m (main_roots (made which)) t) where
+  module _ (old : List ℕ) (t : Tree) (new_sound : (img : List ℕ) (which : Which) → length img ≡ size → active_area img ≡ picks.Active which → active_super img ≡ Some (made which) → AreMade g order moment (image_blocks img (made which)) → IsSound img t) where
     -- an image with the new blocks gives no volume or the new one, with any of the two superblocks
     pub left_new : (img : List ℕ) → length img ≡ size → HasBlocks g own_geometry order moment img → (super_at img 0x2000 ≡ None) ⊎ (super_at img 0x2000 ≡ Some (made First))
         → (super_at img (area_place g Second) ≡ None) ⊎ (super_at img (area_place g Second) ≡ Some (made Second)) → IsLeftByMaker old t img
     left_new img long has (inl first) (inl second) = nothing (neither_active img long first (second_at-none img (area_place g Second) second))
     left_new img long has (inl first) (inr second) =
         let active = active-second_alone img (made Second) first (second_super-unnamed img long first ∙ counts img second) in
-        new_volume (made Second, active.1, new_tree (image_blocks img (made Second)) Second (AreMade-image img Second long has))
+        new_volume (new_sound img Second long active.0 active.1 (AreMade-image img Second long has))
     left_new img long has (inr first) (inl second) =
         let active = active-first_alone img (made First) first (second_super-named img first ∙ second_at-none img (area_place g Second) second) in
-        new_volume (made First, active.1, new_tree (image_blocks img (made First)) First (AreMade-image img First long has))
+        new_volume (new_sound img First long active.0 active.1 (AreMade-image img First long has))
     left_new img long has (inr first) (inr second) =
-        new_volume (made Second, (both_active img first second).1, new_tree (image_blocks img (made Second)) Second (AreMade-image img Second long has))
+        let active = both_active img first second in
+        new_volume (new_sound img Second long active.0 active.1 (AreMade-image img Second long has))

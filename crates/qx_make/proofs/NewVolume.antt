@@ -10,14 +10,13 @@ use Rattle.qx_geom.specs.declared.area.Which.{Which}
 use Rattle.qx_geom.specs.declared.area.Which.TheVariants.{First, Second}
 use Rattle.qx_geom.specs.declared.geometry.Geometry.{Geometry}
 use Rattle.qx_geom.specs.Layout.{IsGeometry, area_place, geometry_of}
-use Rattle.qx_nodes.specs.BlockMap.{BlockMap}
 use Rattle.qx_model.specs.Tree.{Tree}
 use Rattle.qx_super.specs.declared.choice.Pick.TheVariants as picks
 use Rattle.qx_super.specs.Superblock.{Superblock, superblock_of}
 use Rattle.qx_super.specs.Written.{superblock_written}
 use Rattle.qx_super.specs.Active.{active_area, active_super}
-use Rattle.qx_view.specs.Images.{image_blocks, main_roots}
-use Rattle.qx_view.specs.Reading.{IsTreeOf}
+use Rattle.qx_view.specs.Images.{image_blocks}
+use Rattle.qx_view.specs.Sound.{IsSound}
 use Rattle.qx_make.specs.Blocks.{AreMade}
 use Rattle.qx_make.specs.Cut.{IsLeftByMaker, IsTorn, places_of}
 use Rattle.qx_make.specs.Stages.{all_block_bytes, blocks_stage, supers_stage, with_blocks, with_supers}
@@ -188,7 +187,7 @@ module _ (g : Geometry) (order : Order) (moment size : ℕ) (is_geometry : geome
     between : (k : ℕ) → 0x3000 ≤ k → k < area_place g Second → IsApartFrom (supers_stage g order moment filled).puts k
     between k low high = IsApartFrom-two (record { at = 0x2000; bytes = first_bytes }) (record { at = area_place g Second; bytes = second_bytes }) k (inr (omega (arith, length-first))) (inl high)
 
-    module _ (old : List ℕ) (t : Tree) (new_tree : (m : BlockMap) (which : Which) → AreMade g order moment m → IsTreeOf m (main_roots (made which)) t) where
+    module _ (old : List ℕ) (t : Tree) (new_sound : (img : List ℕ) (which : Which) → length img ≡ size → active_area img ≡ picks.Active which → active_super img ≡ Some (made which) → AreMade g order moment (image_blocks img (made which)) → IsSound img t) where
       -- while they are put an image gives no volume or the new one
       pub left-supers : (img : List ℕ) → IsTorn (supers_stage g order moment filled) (places_of old size) img → IsLeftByMaker old t img
       left-supers img torn =
@@ -196,7 +195,7 @@ module _ (g : Geometry) (order : Order) (moment size : ℕ) (is_geometry : geome
           let places = places_of old size in
           let second = area_place g Second in
           let long_img : length img ≡ size = torn.size ∙ length-filled in
-          left_new g order moment size is_geometry in_time old t new_tree img long_img
+          left_new g order moment size is_geometry in_time old t new_sound img long_img
           (HasBlocks-same g own order moment img filled (torn_apart stage places img torn 0x3000 second between) filled-blocks)
           (torn_put stage places img torn 0x2000 first_bytes (made First) (0, omega arith, refl) (omega (arith, area-room, area-behind)) (first-none filled first-apart) first-only (first-valid (length img) long_img))
           (torn_put stage places img torn second second_bytes (made Second) (1, omega arith, last_place-second g order moment size is_geometry in_time) (omega (arith, area-room)) (second-none filled second-apart) second-only (second-valid (length img) long_img))

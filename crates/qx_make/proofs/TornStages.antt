@@ -11,15 +11,14 @@ use Rattle.qx_geom.specs.declared.area.Which.{Which}
 use Rattle.qx_geom.specs.declared.area.Which.TheVariants.{First, Second}
 use Rattle.qx_geom.specs.declared.geometry.Geometry.{Geometry}
 use Rattle.qx_geom.specs.Layout.{area_place, geometry_of}
-use Rattle.qx_nodes.specs.BlockMap.{BlockMap}
 use Rattle.qx_model.specs.Tree.{Tree}
 use Rattle.qx_super.specs.declared.choice.Pick.{Pick}
 use Rattle.qx_super.specs.declared.choice.Pick.TheVariants as picks
 use Rattle.qx_super.specs.Superblock.{Superblock, second_place_of}
 use Rattle.qx_super.specs.Written.{superblock_written}
 use Rattle.qx_super.specs.Active.{active_area, active_super, only_at}
-use Rattle.qx_view.specs.Images.{image_blocks, main_roots}
-use Rattle.qx_view.specs.Reading.{IsTreeOf}
+use Rattle.qx_view.specs.Images.{image_blocks}
+use Rattle.qx_view.specs.Sound.{IsSound}
 use Rattle.qx_make.specs.Blocks.{AreMade}
 use Rattle.qx_make.specs.Cut.{HasNoOtherSuperblock, IsLeftByMaker, IsTorn, LeavesByMaker, last_place, new_volume, nothing, places_of}
 use Rattle.qx_make.specs.Stages.{IsInStage, Passes, Stage, after_stage, areas_stage, make_stages, new_stages, old_places, places_by, rest_stage, with_areas, with_blocks, with_supers, zero_stage, zero_stages, zeroed}
@@ -117,7 +116,8 @@ module _ (old : List ℕ) (size : ℕ) (t : Tree) (agree : active_area old ≡ p
   -- ---- the stages after them
 
   module _ (g : Geometry) (order : Order) (moment : ℕ) (is_geometry : geometry_of size g.blocksize g.num_inodes ≡ Ok g) (in_time : moment < 2 ^ 32)
-      (new_tree : (m : BlockMap) (which : Which) → AreMade g order moment m → IsTreeOf m (main_roots (superblock_written (made_super g order moment which))) t) where
+      (new_sound : (img : List ℕ) (which : Which) → length img ≡ size → active_area img ≡ picks.Active which → active_super img ≡ Some (superblock_written (made_super g order moment which))
+      → AreMade g order moment (image_blocks img (superblock_written (made_super g order moment which))) → IsSound img t) where
     module _ (bytes : List ℕ) (cleared : IsCleared old bytes) where
       -- before the length is set
       left-rest : (img : List ℕ) → IsTorn (rest_stage bytes) (places_of old size) img → IsLeftByMaker old t img
@@ -161,14 +161,14 @@ module _ (old : List ℕ) (size : ℕ) (t : Tree) (agree : active_area old ≡ p
           nothing (active_area-blocks g order moment size is_geometry in_time (replicate 4096 0) (length-replicate {A = ℕ} 4096 0) (byte_of_zeros 4096) (resized bytes size) (length-resized bytes size) (places_of old size) img
           (subst (λ (x : Stage). IsTorn x (places_of old size) img) (sym is) torn))
       left-new stage (suc (suc (suc zero)), within, is) img torn =
-          left-supers g order moment size is_geometry in_time (replicate 4096 0) (length-replicate {A = ℕ} 4096 0) (byte_of_zeros 4096) (resized bytes size) (length-resized bytes size) old t new_tree img
+          left-supers g order moment size is_geometry in_time (replicate 4096 0) (length-replicate {A = ℕ} 4096 0) (byte_of_zeros 4096) (resized bytes size) (length-resized bytes size) old t new_sound img
           (subst (λ (x : Stage). IsTorn x (places_of old size) img) (sym is) torn)
       left-new stage (suc (suc (suc (suc zero))), within, is) img torn =
           let final = with_supers g order moment (with_blocks g order moment (with_areas g (resized bytes size))) in
           let made = made_active g order moment size is_geometry in_time (resized bytes size) (length-resized bytes size) in
           let same : img ≡ final = torn_rest final (places_of old size) img (subst (λ (x : Stage). IsTorn x (places_of old size) img) (sym is) torn) in
           let s = superblock_written (made_super g order moment Second) in
-          subst (λ (x : List ℕ). IsLeftByMaker old t x) (sym same) (new_volume (s, made.superblock, new_tree (image_blocks final s) Second made.blocks))
+          subst (λ (x : List ℕ). IsLeftByMaker old t x) (sym same) (new_volume (new_sound final Second made.size_is made.active made.superblock made.blocks))
       left-new stage (suc (suc (suc (suc (suc k)))), within, is) img torn = absurd (omega arith)
 
     -- what a cut leaves of any stage gives no volume, the old one or the new one

@@ -38,7 +38,7 @@ pub record HasMade (o : MakeOptions) (g : Geometry) (old : List ℕ) (h : Histor
   pub superblock : active_super (bytes_of h) ≡ Some (made_superblock g o.order o.moment 2 Second)
   pub sound : IsSound (bytes_of h) (tree_for o)
 
--- on a device that is ready for it an image gives at each moment no volume, or the old active area with its trees, or the new tree
+-- on a device that is ready for it an image gives at each moment no volume, or the old active area with its trees, or a sound volume with the new tree, unless a torn superblock matches its checksum by chance
 pub record MakesAtEachMoment {D : Type 0} (tells : D → Bool) (history : D → History) (o : MakeOptions) (old new : D) : Type 0 where
   pub before : IsTrue (tells new) → IsTrue (tells old)
   pub step : IsTrue (tells new) → IsReadyToMake (history old) → HoldsThroughout (LeavesByMaker (bytes_of (history old)) o.size (tree_for o)) (history old) (history new)

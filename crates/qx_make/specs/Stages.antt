@@ -147,7 +147,7 @@ with_supers g order moment bytes = after_stage (supers_stage g order moment byte
 abbrev pub with_volume : Geometry → Order → ℕ → List ℕ → List ℕ
 with_volume g order moment bytes = with_supers g order moment (with_blocks g order moment (with_areas g bytes))
 
--- the stages that make a volume of zeros and old bytes of its length
+-- the stages that write a volume over bytes that have its length
 abbrev pub new_stages : Geometry → Order → ℕ → List ℕ → List Stage
 new_stages g order moment bytes =
     clear_stage g bytes ∷ blocks_stage g order moment (with_areas g bytes) ∷ supers_stage g order moment (with_blocks g order moment (with_areas g bytes))

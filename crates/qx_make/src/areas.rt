@@ -1,5 +1,5 @@
 //! Superblock areas: zeroed, so that nothing is found there, or filled.
-ghost use Rattle.std.specs.Prelude.{◌≡◌, ℕ, ◌+◌, ◌-◌, ◌≤◌, List, length, min, replicate, IfSome, OnOk};
+ghost use Rattle.std.specs.Prelude.{◌≡◌, ℕ, ◌-◌, ◌≤◌, List, length, min, replicate, IfSome};
 ghost use Rattle.qx_outside.specs.Causes.{HasCause};
 ghost use Rattle.qx_outside.specs.Calls.{LeavesRest};
 ghost use Rattle.qx_geom.specs.Layout.{IsGeometry};
@@ -20,7 +20,7 @@ fn zeros_within(len: u64, place: u64) -> &'static [u8]
 }
 
 /// Zeroes the area at a place, as far as the device of `len` bytes has it, and has that kept.
-pub(crate) fn zero_area<D: Dev>(host: &mut D, len: u64, place: u64) -> Result<(), Failed>
+pub fn zero_area<D: Dev>(host: &mut D, len: u64, place: u64) -> Result<(), Failed>
     requires len { IfSome (D.extent host.old) (λ n. n ≡ len) }
     ensures stage { (bytes : List ℕ) → length bytes ≡ len → Performs D.tells D.history (zero_stage bytes place) result host.old host.new }
     ensures others { LeavesRest D.extent D.attached D.dev_reads D.con_faults host.old host.new }
@@ -37,7 +37,7 @@ pub(crate) fn zero_area<D: Dev>(host: &mut D, len: u64, place: u64) -> Result<()
 }
 
 /// Puts bytes at the beginning of both areas of a volume, and has them kept.
-pub(crate) fn put_into_areas<D: Dev>(
+pub fn put_into_areas<D: Dev>(
     host: &mut D,
     geometry: &Geometry,
     first: &[u8],

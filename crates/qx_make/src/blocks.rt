@@ -2,7 +2,6 @@
 ghost use Rattle.std.specs.Prelude.{◌≡◌, ◌+◌, ◌*◌, ◌^◌, ◌≤◌, ◌<◌, flat_map, length};
 ghost use Rattle.std.specs.List.{range_with_len};
 ghost use Rattle.qx_geom.specs.Layout.{IsGeometry, IsPointerBlock, first_block};
-ghost use Rattle.qx_geom.specs.Pointer.{per_block};
 ghost use Rattle.qx_make.specs.Blocks.{bitmap_byte, bitmap_leaf_bytes, half_block_bytes, inode_leaf_bytes, is_taken, made_block_bytes, pointer_block_bytes, top_block, top_directory_bytes, top_inode_bytes};
 
 use qx_fields::{Order, put16, put32, put32s, put64};
@@ -32,9 +31,9 @@ fn is_bit_set(geometry: &Geometry, bit: u64) -> bool
     bit <= 2 * u64::from(geometry.half) || u64::from(geometry.num_blocks) <= bit
 }
 
-/// A byte of the bitmap.
+/// A byte of the bitmap, bit by bit.
 #[tactic(auto, unfolding(crate::specs::Blocks::bitmap_byte))]
-fn byte_of_bitmap(geometry: &Geometry, index: u64) -> u8
+fn byte_by_bits(geometry: &Geometry, index: u64) -> u8
     requires geometry { IsGeometry geometry.now }
     requires index { index < 2 ^ 32 }
     ensures { result ≡ bitmap_byte geometry.now index }
@@ -46,6 +45,24 @@ fn byte_of_bitmap(geometry: &Geometry, index: u64) -> u8
         }
     }
     byte
+}
+
+/// A byte of the bitmap. Nearly all of them say of 8 blocks that each is held, or that none is.
+#[tactic(auto, unfolding(crate::specs::Blocks::bitmap_byte))]
+fn byte_of_bitmap(geometry: &Geometry, index: u64) -> u8
+    requires geometry { IsGeometry geometry.now }
+    requires index { index < 2 ^ 32 }
+    ensures { result ≡ bitmap_byte geometry.now index }
+{
+    let first = 8 * index;
+    let top = 2 * u64::from(geometry.half);
+    if first + 7 <= top {
+        return 0xFF;
+    }
+    if top < first && first + 8 <= u64::from(geometry.num_blocks) {
+        return 0;
+    }
+    byte_by_bits(geometry, index)
 }
 
 /// Fills a leaf of the bitmap.

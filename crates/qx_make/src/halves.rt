@@ -34,7 +34,7 @@ fn write_pieces<D: Dev>(host: &mut D, volume: &NewVolume) -> Result<(), Failed>
 }
 
 /// Writes all blocks of both halves and the root directory's block, and has them kept.
-pub(crate) fn write_blocks<D: Dev>(host: &mut D, volume: &NewVolume) -> Result<(), Failed>
+pub fn write_blocks<D: Dev>(host: &mut D, volume: &NewVolume) -> Result<(), Failed>
     requires geometry { IsGeometry volume.now.geometry }
     requires len { IfSome (D.extent host.old) (λ n. volume.now.geometry.len4 ≤ n) }
     ensures stage { (bytes : List ℕ) → volume.now.geometry.len4 ≤ length bytes → Performs D.tells D.history (blocks_stage volume.now.geometry volume.now.order volume.now.moment bytes) result host.old host.new }

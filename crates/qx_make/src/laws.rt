@@ -1,15 +1,13 @@
 //! Laws of a new volume, and rows of what the maker writes.
-ghost use Rattle.std.specs.Prelude.{◌≡◌, ◌<◌, ◌^◌, ℕ, List, length, Some, None, [], ◌∷◌, ◌++◌, replicate, slice_range};
+ghost use Rattle.std.specs.Prelude.{◌≡◌, ◌<◌, ◌^◌, ℕ, List, None, [], ◌∷◌, ◌++◌, replicate, slice_range};
 ghost use Rattle.qx_fields.specs.declared.order.Order.{Order};
 ghost use Rattle.qx_fields.specs.declared.order.Order.TheVariants as orders;
 ghost use Rattle.qx_geom.specs.declared.area.Which.{Which};
 ghost use Rattle.qx_geom.specs.declared.area.Which.TheVariants as areas;
 ghost use Rattle.qx_geom.specs.declared.geometry.Geometry.{Geometry};
-ghost use Rattle.qx_geom.specs.Layout.{IsGeometry, area_place, geometry_of, numbers_of};
+ghost use Rattle.qx_geom.specs.Layout.{IsGeometry, geometry_of, numbers_of};
 ghost use Rattle.qx_nodes.specs.BlockMap.{BlockMap};
 ghost use Rattle.qx_model.specs.EmptyTree.{empty_tree};
-ghost use Rattle.qx_super.specs.declared.choice.Pick.TheVariants as picks;
-ghost use Rattle.qx_super.specs.Active.{active_area, active_super, area_at, first_super, second_super, valid_area};
 ghost use Rattle.qx_view.specs.Examples.{empty_tree as tree_by_hand, made_blocks, made_super};
 ghost use Rattle.qx_view.specs.Reading.{IsTreeOf};
 ghost use Rattle.qx_view.specs.Sound.{IsSound, last_finding, reason_of};

@@ -1,5 +1,5 @@
 //! The maker's way: the old areas are zeroed, the length is set, and the new volume is written from its blocks to its superblocks.
-ghost use Rattle.std.specs.Prelude.{◌≡◌, ◌<◌, ◌≤◌, ◌^◌, ◌-◌, ◌∷◌, [], ◌++◌, ◌⊎◌, ℕ, List, length, IfOk, IfSome, OnOk, IsTrue, Err, Ok};
+ghost use Rattle.std.specs.Prelude.{◌≡◌, ◌<◌, ◌≤◌, ◌^◌, ◌-◌, ◌∷◌, [], ◌++◌, ℕ, List, length, IfOk, IfSome, OnOk, IsTrue, Err, Ok};
 ghost use Rattle.qx_outside.specs.Calls.{LeavesConsole, LeavesRest};
 ghost use Rattle.qx_outside.specs.Causes.{HasCause, Rose};
 ghost use Rattle.qx_outside.specs.Trail.{bytes_of};
@@ -97,7 +97,7 @@ fn zero_places<D: Dev>(host: &mut D, len: u64, one: u64, last: Option<u64>) -> R
     }
 }
 
-/// Zeroes the areas of the volume that the device has, whichever it is.
+/// Zeroes the areas of the volume that the device has, whichever it is; where none is active, the first area's place.
 fn clear_old<D: Dev>(host: &mut D) -> Result<(), Failed>
     ensures stages { (old : List ℕ) → PerformsAll D.tells D.history old (zeroed old (old_places old)) (old_stages old) result host.old host.new }
     ensures others { LeavesConsole D.attached D.con_faults host.old host.new }
@@ -169,7 +169,7 @@ fn replace<D: Dev>(
 /// Makes an empty volume on a device, whatever the device held before. The device gets the length that is asked for.
 ///
 /// The old areas are zeroed first, the active one last, and the new superblocks come last, so that wherever the power is cut the device gives no volume, or the old one, or the new one.
-/// That has premises (`IsReadyToMake`): nothing is pending, the old areas don't disagree, and the old bytes have the magic and a right checksum nowhere else.
+/// That has premises. The device is ready (`IsReadyToMake`): nothing is pending, the old areas don't disagree, and the old bytes, followed by bytes 0, have the magic and a right checksum nowhere else. And no half-written superblock matches its checksum by chance (`HasNoFalseSuperblock`).
 /// It takes no memory.
 pub fn make<D: Dev>(host: &mut D, options: &MakeOptions) -> Result<Made, MakeFault>
     // Numbers that are those of no volume are refused before anything is asked of the device, and no others are.

@@ -39,7 +39,7 @@ pub enum MakeFault {
     /// The numbers are those of no volume. Nothing was asked of the device.
     #[error("the numbers are those of no volume: {0}")]
     Geom(GeomFault),
-    /// A device call failed. What was begun is left: no volume, or the old one, or the new one.
+    /// A device call failed. What was begun is left: on a device that was ready for it no volume, or the old one, or the new one.
     #[error("a device call failed")]
     Device,
 }

@@ -1,5 +1,5 @@
 -- What is told of the deeds but for writes and syncs.
-use Rattle.std.proofs.Common.{◌≡◌, ℕ, List, [], ◌∷◌, ◌++◌, refl, ap, sym, ◌∙◌, append-nil}
+use Rattle.std.proofs.Common.{◌≡◌, ℕ, List, [], ◌∷◌, ◌++◌, refl, ap, ◌∙◌, append-nil}
 use Rattle.qx_outside.specs.Trail.{Deed, took, gave, wrote, synced, sized, told_moment, events_of, input_of, lengths_asked, others_of, output_of}
 
 -- the lengths that were asked for are among them

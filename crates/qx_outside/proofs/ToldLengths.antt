@@ -1,5 +1,5 @@
 -- A bound on the length of a device, where it is told.
-use Rattle.std.proofs.Common.{◌≡◌, ℕ, Option, None, Some, subst, sym}
+use Rattle.std.proofs.Common.{◌≡◌, ℕ, Option, None, Some, subst}
 use Rattle.std.specs.Prelude.{IfSome}
 use Rattle.qx_outside.specs.Causes.{StaysWhereTold}
 

@@ -1,5 +1,5 @@
 -- What holds at each moment of a run: of the history before it, of each one on the way, and of the one after it.
-use Rattle.std.specs.Prelude.{ℕ, Bool, IsTrue, ◌≡◌, List, [], ◌∷◌, ◌++◌}
+use Rattle.std.specs.Prelude.{Bool, IsTrue, ◌≡◌, List, [], ◌∷◌, ◌++◌}
 use Rattle.qx_outside.specs.Trail.{History, Deed, others_of}
 
 -- the history after these deeds, the newest first

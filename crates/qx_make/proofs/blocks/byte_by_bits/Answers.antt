@@ -1,8 +1,8 @@
 use Rattle.std.proofs.Common.{◌≡◌, ℕ, ◌+◌, ◌*◌, ap, sym, ◌∙◌, arith}
 use Rattle.qx_make.specs.Blocks.{is_taken}
 use Rattle.qx_make.proofs.BitmapBytes.{bit_off, bit_on}
-use Rattle.qx_make.proofs.blocks.byte_of_bitmap.Goals as goal
-use Rattle.qx_make.proofs.blocks.byte_of_bitmap.Goals.{then-is_bit_set, else-is_bit_set}
+use Rattle.qx_make.proofs.blocks.byte_by_bits.Goals as goal
+use Rattle.qx_make.proofs.blocks.byte_by_bits.Goals.{then-is_bit_set, else-is_bit_set}
 
 pub loop-bit-preserved : goal.loop-bit-preserved
 loop-bit-preserved c =

@@ -1,0 +1,18 @@
+//! Blocks: what pointer trees, files and operations know of a device.
+//!
+//! Stands on `qx_outside` for counts of faults; the cache is one of its implementers, and all that follows pointers stands on it.
+//! Its contract: the trait `Blocks`, in whose clauses each call is one step of the meaning in `specs/BlockState.antt`.
+//! What holds of the blocks at any moment is `IsConsistent`, which the calls that only look give.
+//! It makes no outside call: `MemBlocks` is the only implementer here, and keeps all in memory.
+#![tactic(auto)]
+
+mod blocks;
+mod copy;
+mod memory;
+
+pub use blocks::{Blocks, Stop};
+pub use copy::fresh_copy;
+pub use memory::MemBlocks;
+
+#[cfg(test)]
+mod tests;

@@ -1,0 +1,5 @@
+pub mod CountedWords
+pub mod FirstAbsent
+pub mod MembersInWords
+pub mod SetUnion
+pub mod UnitedWords

@@ -1,0 +1,181 @@
+//! Volumes that are made on a host in memory. Wanted sums and bytes come from a script that lays volumes out by the format's tables alone.
+
+mod cuts;
+
+use crate::{Made, MakeFault, MakeOptions, make};
+use qx_fields::Order::{self, Big, Little};
+use qx_geom::GeomFault;
+use qx_outside::MemHost;
+use qx_super::checksum;
+use std::alloc::Global;
+use std::test::Fail;
+
+const MOMENT: u32 = 0x0102_0304;
+
+/// What is asked for, at one moment.
+fn asked(size: u64, blocksize: u32, inodes: u32, order: Order) -> MakeOptions {
+    MakeOptions {
+        size,
+        blocksize,
+        inodes,
+        order,
+        moment: MOMENT,
+    }
+}
+
+/// A host over a device of these bytes, where these calls fail.
+fn host_over(alloc: Global, device: &[u8], failing: &[u64]) -> Result<MemHost, Fail> {
+    let none = Vec::new(alloc);
+    let device = device.to_vec(alloc)?;
+    let failing = failing.to_vec(alloc)?;
+    Ok(MemHost::new(alloc, device, none, Vec::new(alloc), failing, 10_000)?)
+}
+
+/// A device that has this byte throughout.
+fn device_of(alloc: Global, len: usize, byte: u8) -> Result<Vec<u8>, Fail> {
+    let mut device = Vec::new(alloc);
+    device.resize(len, byte)?;
+    Ok(device)
+}
+
+/// What is answered where no call fails, and the device's bytes afterwards.
+fn made_over(alloc: Global, device: &[u8], options: &MakeOptions) -> Result<(Made, Vec<u8>), Fail> {
+    let mut host = host_over(alloc, device, &[])?;
+    let made = make(&mut host, options)?;
+    Ok((made, host.bytes().to_vec(alloc)?))
+}
+
+/// So many bytes at a place, or none where the device lacks some of them.
+fn part(device: &[u8], at: usize, len: usize) -> &[u8] {
+    device.get(at..at.saturating_add(len)).unwrap_or(&[])
+}
+
+/// Puts bytes at a place, as far as the device has it.
+fn put(device: &mut [u8], at: usize, bytes: &[u8]) {
+    for (old, new) in device.iter_mut().skip(at).zip(bytes) {
+        *old = *new;
+    }
+}
+
+#[test]
+fn the_shortest_volumes_are_made_whole_and_a_byte_less_is_too_short(
+    rt: HostRuntime,
+) -> Result<(), Fail> {
+    let alloc = rt.alloc();
+    // The block size, inodes, order and length, the numbers that are answered, and the checksum of all bytes.
+    let cases = [
+        (512, 16, Little, 32768, [32, 22, 21], 0x4AC7_86A9),
+        (1024, 16, Big, 40960, [24, 18, 17], 0xDD4B_D235),
+        (2048, 16, Little, 61440, [22, 18, 17], 0xE7D6_1A91),
+        (4096, 16, Big, 102_400, [21, 17, 16], 0xA0C3_1616),
+        (512, 64, Big, 45056, [56, 22, 21], 0x5C24_640E),
+        (512, 65, Little, 45056, [56, 18, 17], 0x312D_B1CD),
+        (1024, 129, Big, 73728, [56, 18, 17], 0x2F8B_8512),
+        (2048, 4096, Little, 1_110_016, [534, 18, 17], 0xB675_B697),
+        (4096, 4096, Big, 1_150_976, [277, 17, 16], 0x9BBC_313E),
+        (512, 8193, Little, 2_146_304, [4160, 22, 21], 0x64DA_C30A),
+    ];
+    for (blocksize, inodes, order, size, [blocks, user, free], sum) in cases {
+        let options = asked(size, blocksize, inodes, order);
+        let (made, bytes) = made_over(alloc, &[], &options)?;
+        let want = Made {
+            blocks,
+            user,
+            free,
+            inodes,
+        };
+        assert_eq!(rt; made, want, "{options:?}");
+        assert_eq!(rt; bytes.len() as u64, size, "{options:?}");
+        assert_eq!(rt; checksum(&bytes), sum, "{options:?}");
+        let shorter = MakeOptions {
+            size: size.saturating_sub(1),
+            ..options
+        };
+        let mut host = host_over(alloc, &bytes, &[])?;
+        let short = Err(MakeFault::Geom(GeomFault::TooShort));
+        assert_eq!(rt; make(&mut host, &shorter), short, "{shorter:?}");
+    }
+    Ok(())
+}
+
+#[test]
+fn a_volume_has_the_bytes_of_the_format(rt: HostRuntime) -> Result<(), Fail> {
+    let alloc = rt.alloc();
+    let little: [(&str, usize, &[u8]); 12] = [
+        ("magic", 0x2000, &[0x22, 0x11, 0x19, 0x68]),
+        ("serial", 0x2008, &[1, 0, 0, 0, 0, 0, 0, 0]),
+        ("moments", 0x2010, &[4, 3, 2, 1, 4, 3, 2, 1]),
+        ("block size and inodes", 0x2030, &[0, 2, 0, 0, 16, 0, 0, 0]),
+        ("free inodes", 0x2038, &[15, 0, 0, 0, 96, 0, 0, 0]),
+        (
+            "bitmap",
+            0x3000,
+            &[0xFF, 7, 0, 0, 0, 0, 0, 0, 0, 0, 0, 0, 0xFF],
+        ),
+        ("bitmap's end", 0x31FF, &[0xFF]),
+        ("second bitmap", 0x3A00, &[0xFF, 7, 0]),
+        ("mode and block", 0x3220, &[0xED, 0x41, 0, 0, 10, 0, 0, 0]),
+        ("this row", 0x4400, &[1, 0, 0, 0, 1, b'.', 0]),
+        ("parent's row", 0x4420, &[1, 0, 0, 0, 2, b'.', b'.', 0]),
+        ("second serial", 0xF008, &[2, 0, 0, 0, 0, 0, 0, 0]),
+    ];
+    let big: [(&str, usize, &[u8]); 9] = [
+        ("magic", 0x2000, &[0x68, 0x19, 0x11, 0x22]),
+        ("free blocks", 0x2040, &[0, 0, 0, 233]),
+        (
+            "inode root",
+            0x2048,
+            &[0, 0, 0, 0, 0, 0, 0x80, 0, 0, 0, 0, 1],
+        ),
+        ("bitmap", 0x3000, &[0xFF, 0xFF, 7, 0]),
+        ("bits past the end", 0x301E, &[0, 0xF0, 0xFF]),
+        ("mode and block", 0x4020, &[0x41, 0xED, 0, 0, 0, 0, 0, 18]),
+        ("this row", 0x15000, &[0, 0, 0, 1, 1, b'.', 0]),
+        ("second serial", 0xFF008, &[0, 0, 0, 0, 0, 0, 0, 2]),
+        (
+            "second root",
+            0xFF048,
+            &[0, 0, 0, 0, 0, 0, 0x80, 0, 0, 0, 0, 10],
+        ),
+    ];
+    let (_, bytes) = made_over(alloc, &[], &asked(65537, 512, 16, Little))?;
+    for (name, at, want) in little {
+        assert_eq!(rt; part(&bytes, at, want.len()), want, "{name}");
+    }
+    let (_, bytes) = made_over(alloc, &[], &asked(1 << 20, 4096, 256, Big))?;
+    for (name, at, want) in big {
+        assert_eq!(rt; part(&bytes, at, want.len()), want, "{name}");
+    }
+    Ok(())
+}
+
+#[test]
+fn what_the_device_held_is_seen_in_no_block_that_is_written(rt: HostRuntime) -> Result<(), Fail> {
+    let alloc = rt.alloc();
+    let options = asked(65536, 512, 16, Little);
+    let (_, fresh) = made_over(alloc, &[], &options)?;
+    let short = asked(40960, 1024, 16, Big);
+    let long = asked(102_400, 4096, 16, Big);
+    let (_, short_volume) = made_over(alloc, &[], &short)?;
+    let (_, long_volume) = made_over(alloc, &device_of(alloc, 102_400, 0x5A)?, &long)?;
+    // The device, and the place at which its second area was.
+    let cases = [
+        ("shorter", device_of(alloc, 9000, 0xA5)?, None),
+        ("of that length", device_of(alloc, 65536, 0xA5)?, None),
+        ("longer", device_of(alloc, 70000, 0xA5)?, None),
+        ("a shorter volume", short_volume, Some(36864)),
+        ("a longer volume", long_volume, Some(98304)),
+    ];
+    for (name, device, second) in cases {
+        let (_, bytes) = made_over(alloc, &device, &options)?;
+        let mut want = device;
+        if let Some(place) = second {
+            put(&mut want, place, &[0; 4096]);
+        }
+        want.resize(65536, 0)?;
+        put(&mut want, 0x2000, part(&fresh, 0x2000, 0x2600));
+        put(&mut want, 0xF000, part(&fresh, 0xF000, 0x1000));
+        assert!(rt; bytes == want, "{name}");
+    }
+    Ok(())
+}

@@ -1,0 +1,4 @@
+pub mod BlocksComeAndGo
+pub mod EntriesComeAndGo
+pub mod EntryMaps
+pub mod OrderedEntries

@@ -1,0 +1,2 @@
+pub mod PatchState
+pub mod PatchView

@@ -1,0 +1,4 @@
+pub mod Names
+pub mod NamesLeft
+pub mod PathParts
+pub mod PathView

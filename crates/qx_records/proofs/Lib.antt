@@ -1,0 +1,3 @@
+pub mod RecordLists
+pub mod WrittenRecords
+pub mod WrittenInodes
