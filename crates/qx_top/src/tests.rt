@@ -1,5 +1,8 @@
 //! Whole runs over a host in memory.
 
+mod small;
+mod volumes;
+
 use crate::run;
 use qx_fields::{Order, put16, put32, put64};
 use qx_geom::{ABSENT, Which};
@@ -90,28 +93,34 @@ impl Volume {
     }
 }
 
-/// Runs the words over a device, where these calls fail: the status, and the host afterwards.
-fn ran(
+/// Runs the words over a device at the moment 1000, where these calls fail and there is room for so many events: the status, and the host afterwards.
+fn ran_in_room(
     alloc: Global,
     words: &[&str],
     device: Vec<u8>,
     failing: &[u64],
+    room: usize,
 ) -> Result<(u8, MemHost), Fail> {
     let mut texts = Vec::new(alloc);
     for word in words {
         texts.push(String::from_str(alloc, word)?)?;
     }
     let failing = failing.to_vec(alloc)?;
-    let host = MemHost::new(
-        alloc,
-        device,
-        Vec::new(alloc),
-        Vec::new(alloc),
-        failing,
-        100,
-    )?;
+    let mut moments = Vec::new(alloc);
+    moments.push(1000)?;
+    let host = MemHost::new(alloc, device, Vec::new(alloc), moments, failing, room)?;
     let ended = run(&texts, host);
     Ok((ended.status, ended.host))
+}
+
+/// The same with ample room.
+fn ran(
+    alloc: Global,
+    words: &[&str],
+    device: Vec<u8>,
+    failing: &[u64],
+) -> Result<(u8, MemHost), Fail> {
+    ran_in_room(alloc, words, device, failing, 100)
 }
 
 /// The same bytes with some of them turned over.
@@ -226,14 +235,15 @@ fn each_call_that_fails_has_its_line_and_status(rt: HostRuntime) -> Result<(), F
 #[test]
 fn other_words_get_the_usage_line_and_no_device_call(rt: HostRuntime) -> Result<(), Fail> {
     let alloc = rt.alloc();
-    let cases: [&[&str]; 8] = [
+    let cases: [&[&str]; 9] = [
         &[],
         &["chkqnx6fs"],
         &["chkqnx6fs", "x"],
         &["chkqnx6fs", "-s"],
         &["chkqnx6fs", "-s", "x", "y"],
         &["chkqnx6fs", "-S", "x"],
-        &["mkqnx6fs", "x", "65536"],
+        &["mkqnx6fs", "x"],
+        &["mkqnx6fs", "x", "65536", "y"],
         &["frob", "x"],
     ];
     for words in cases {
