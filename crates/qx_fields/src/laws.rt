@@ -1,12 +1,28 @@
 //! What callers need to know of numbers that are put.
-ghost use Rattle.std.specs.Prelude.{◌≡◌, ℕ, ◌+◌, ◌-◌, ◌^◌, ◌<◌, ◌≤◌, ◌⊎◌, List, length, slice_range, slice_index};
-ghost use Rattle.qx_fields.specs.Number.{field, put_field};
+ghost use Rattle.std.specs.Prelude.{◌≡◌, ℕ, ◌+◌, ◌-◌, ◌*◌, ◌^◌, ◌<◌, ◌≤◌, ◌⊎◌, List, length, slice_range, slice_index, All};
+ghost use Rattle.qx_fields.specs.Number.{digits, all_digits, field, fields, put_field, put_fields};
 ghost use Rattle.qx_fields.specs.declared.order.Order.{Order};
 
 /// A number that fits its bytes is read back from where it was put.
 pub fn a_number_that_is_put_is_read_back()
     ensures { (order : Order) (n x : ℕ) (bytes : List ℕ) (at : ℕ) → x < 256 ^ n → at ≤ length bytes
         → field order n (put_field order n bytes at x) at ≡ x }
+{}
+
+/// So are several, where each fits its bytes.
+pub fn numbers_that_are_put_are_read_back()
+    ensures { (order : Order) (n : ℕ) (xs bytes : List ℕ) (at : ℕ) → All (λ x. x < 256 ^ n) xs → at + n * length xs ≤ length bytes
+        → fields order n (length xs) (put_fields order n bytes at xs) at ≡ xs }
+{}
+
+/// Where the digits of numbers stand, these numbers are read.
+pub fn what_is_spelled_is_read()
+    ensures field { (order : Order) (n x : ℕ) (bytes : List ℕ) (at : ℕ) → x < 256 ^ n
+        → slice_range bytes at (at + n) ≡ digits order n x
+        → field order n bytes at ≡ x }
+    ensures fields { (order : Order) (n : ℕ) (xs bytes : List ℕ) (at : ℕ) → All (λ x. x < 256 ^ n) xs → at + n * length xs ≤ length bytes
+        → slice_range bytes at (at + n * length xs) ≡ all_digits order n xs
+        → fields order n (length xs) bytes at ≡ xs }
 {}
 
 /// A field or a byte that lies before or behind stays, and so does the length.

@@ -1,6 +1,6 @@
 //! Numbers of 16, 32 and 64 bits, read and put.
-ghost use Rattle.std.specs.Prelude.{◌≡◌, ◌+◌, ◌*◌, ◌≤◌, length};
-ghost use Rattle.qx_fields.specs.Number.{field, fields, put_field};
+ghost use Rattle.std.specs.Prelude.{◌≡◌, ◌+◌, ◌*◌, ◌^◌, ◌<◌, ◌≤◌, length, All};
+ghost use Rattle.qx_fields.specs.Number.{field, fields, put_field, put_fields};
 
 use crate::Order;
 use byteorder::{BigEndian, ByteOrder, LittleEndian};
@@ -95,6 +95,22 @@ pub fn put64(order: Order, into: &mut [u8], at: usize, value: u64)
     }
 }
 
+/// Puts the numbers of a slice, of 4 bytes each, one after another from a place on.
+#[tactic(auto, unfolding(crate::specs::Number::put_fields))]
+pub fn put32s(order: Order, into: &mut [u8], at: usize, values: &[u32])
+    requires { at + 4 * length values.now ≤ length into.old }
+    ensures bytes { into.new ≡ put_fields order 4 into.old at values.now }
+
+    // A caller knows no range of a whole slice, and needs it to say that the numbers are read back.
+    ensures fit { All (λ value. value < 256 ^ 4) values.now }
+{
+    let part = &mut into[at..at + 4 * values.len()];
+    match order {
+        Order::Little => LittleEndian::write_u32_into(values, part),
+        Order::Big => BigEndian::write_u32_into(values, part),
+    }
+}
+
 #[cfg(test)]
 mod tests {
     use super::*;
@@ -115,6 +131,9 @@ mod tests {
             let mut copy = [0xFF; 8];
             put32(order, &mut copy, 0, 0x6819_1122);
             put32(order, &mut copy, 4, 0x89AB_CDEF);
+            assert_eq!(rt; copy, bytes, "{order:?}");
+            let mut copy = [0xFF; 8];
+            put32s(order, &mut copy, 0, &[0x6819_1122, 0x89AB_CDEF]);
             assert_eq!(rt; copy, bytes, "{order:?}");
         }
         let little = [0xFF, 0x08, 0x07, 0x06, 0x05, 0x04, 0x03, 0x02, 0x01];

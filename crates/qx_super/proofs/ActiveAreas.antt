@@ -1,15 +1,17 @@
 -- The active area by what was read, and on what it depends.
 use Rattle.std.proofs.Common.{◌≡◌, ℕ, Bool, true, false, List, length, replicate, Option, Some, None, Err, IsSome, IfSome, refl, ap, sym, ◌∙◌, if◌then◌else◌}
-use Rattle.std.specs.Prelude.{option_and_then}
+use Rattle.std.specs.Prelude.{option_and_then, nat_lt, ◌<◌, ◌≤◌}
+use Rattle.std.proofs.lemmas.Bool.{lt-ltb, le-ltb}
 use Rattle.std.specs.Result.{result_ok}
 use Rattle.qx_fields.specs.Number.{field}
 use Rattle.qx_geom.specs.declared.area.Which.{Which}
 use Rattle.qx_geom.specs.declared.area.Which.TheVariants.{First, Second}
+use Rattle.qx_super.specs.declared.choice.Pick.{Pick}
 use Rattle.qx_super.specs.declared.choice.Pick.TheVariants as picks
 use Rattle.qx_super.specs.declared.superblock.SuperFault.TheVariants.{Magic}
 use Rattle.qx_outside.specs.Causes.{StaysWhereTold}
 use Rattle.qx_super.specs.Superblock.{Superblock, order_of, superblock_of}
-use Rattle.qx_super.specs.Active.{AreRead, area_at, valid_area, only_at, searched_place, buffer_of, first_area, second_area, first_super, second_search, second_super, first_read, second_read, pick_of, super_of_pick, active_area, active_super}
+use Rattle.qx_super.specs.Active.{AreRead, area_at, valid_area, only_at, searched_place, buffer_of, first_area, second_area, first_super, second_search, second_super, first_read, second_read, is_same_volume, pick_of, super_of_pick, active_area, active_super}
 
 -- bytes 0 have no magic
 pub superblock_of-zeros : (len : ℕ) → superblock_of (replicate 512 0) len ≡ Err Magic
@@ -107,6 +109,46 @@ IsSome-picked (Some a) (Some b) which e = IsSome-both _ _ a b which e
 pub IsSome-active_super : (img : List ℕ) (which : Which) → active_area img ≡ picks.Active which → IsSome (active_super img)
 unfolding active_area active_super
 IsSome-active_super img which e = IsSome-picked (first_super img) (second_super img) which e
+
+-- what is active where the two areas have these superblocks
+picked : (img : List ℕ) (a b : Option Superblock) → first_super img ≡ a → second_super img ≡ b → (active_area img ≡ pick_of a b) × (active_super img ≡ super_of_pick (pick_of a b) a b)
+unfolding active_area active_super
+picked img a b first second = (
+  ap (λ (s : Option Superblock). pick_of s (second_super img)) first ∙ ap (λ (s : Option Superblock). pick_of a s) second,
+  ap (λ (s : Option Superblock). super_of_pick (pick_of s (second_super img)) s (second_super img)) first
+      ∙ ap (λ (s : Option Superblock). super_of_pick (pick_of a s) a s) second,
+)
+
+-- with no superblock no area is active
+pub active-none : (img : List ℕ) → first_super img ≡ None → second_super img ≡ None → (active_area img ≡ picks.None) × (active_super img ≡ None)
+active-none img first second = picked img None None first second
+
+-- with one superblock its area is active
+pub active-first_alone : (img : List ℕ) (a : Superblock) → first_super img ≡ Some a → second_super img ≡ None → (active_area img ≡ picks.Active First) × (active_super img ≡ Some a)
+active-first_alone img a first second = picked img (Some a) None first second
+
+pub active-second_alone : (img : List ℕ) (b : Superblock) → first_super img ≡ None → second_super img ≡ Some b → (active_area img ≡ picks.Active Second) × (active_super img ≡ Some b)
+active-second_alone img b first second = picked img None (Some b) first second
+
+-- the pick of two of one volume
+pick_of-one_volume : (a b : Superblock) (later : Bool) → is_same_volume a b ≡ true → nat_lt a.serial b.serial ≡ later → pick_of (Some a) (Some b) ≡ (if later then picks.Active Second else picks.Active First)
+pick_of-one_volume a b later same order =
+    ap (λ (one : Bool). if one then (if nat_lt a.serial b.serial then picks.Active Second else picks.Active First) else picks.Disagree) same
+    ∙ ap (λ (t : Bool). if t then picks.Active Second else picks.Active First) order
+
+-- of two of one volume the one with the greater serial is active
+pub active-second_later : (img : List ℕ) (a b : Superblock) → first_super img ≡ Some a → second_super img ≡ Some b → is_same_volume a b ≡ true → a.serial < b.serial → (active_area img ≡ picks.Active Second) × (active_super img ≡ Some b)
+active-second_later img a b first second same later =
+    let pick : pick_of (Some a) (Some b) ≡ picks.Active Second = pick_of-one_volume a b true same (lt-ltb a.serial b.serial later) in
+    let both = picked img (Some a) (Some b) first second in
+    (both.0 ∙ pick, both.1 ∙ ap (λ (p : Pick). super_of_pick p (Some a) (Some b)) pick)
+
+-- the first at equal serials
+pub active-first_later : (img : List ℕ) (a b : Superblock) → first_super img ≡ Some a → second_super img ≡ Some b → is_same_volume a b ≡ true → b.serial ≤ a.serial → (active_area img ≡ picks.Active First) × (active_super img ≡ Some a)
+active-first_later img a b first second same later =
+    let pick : pick_of (Some a) (Some b) ≡ picks.Active First = pick_of-one_volume a b false same (le-ltb a.serial b.serial later) in
+    let both = picked img (Some a) (Some b) first second in
+    (both.0 ∙ pick, both.1 ∙ ap (λ (p : Pick). super_of_pick p (Some a) (Some b)) pick)
 
 -- two buffers are what the image has, where the second was read from the place that the first names
 pub are_read : (img first second : List ℕ) (len : ℕ) (place : Option ℕ) → len ≡ length img → first ≡ buffer_of (first_area img) → place ≡ searched_place len (first_read first len) → second ≡ buffer_of (option_and_then (λ at. area_at img at) place) → AreRead img first second

@@ -3,4 +3,7 @@ pub mod LinearShifts
 pub mod TableEntries
 pub mod LongDivision
 pub mod ValidSuperblocks
+pub mod SuperblockTests
+pub mod WrittenRoots
+pub mod WrittenSuperblocks
 pub mod ActiveAreas

@@ -134,6 +134,12 @@ unfolding checksum_of
 checksum_shifts bytes =
     fold-append divided 0 (flat_map bits_of bytes) (replicate 32 0) ∙ zeros 32 (fold divided 0 (flat_map bits_of bytes))
 
+-- so a checksum has 32 bits
+pub checksum_of-lt : (bytes : List ℕ) → checksum_of bytes < 2 ^ 32
+checksum_of-lt bytes =
+    let P : ℕ → Type 0 = λ m. m < 2 ^ 32 in
+    subst P (sym (checksum_shifts bytes)) (shifts_lt 32 (fold divided 0 (flat_map bits_of bytes)) (remainder_lt bytes 0 (omega arith)))
+
 -- the bits of bytes with one more
 bits_more : (bytes : List ℕ) (byte : ℕ) → flat_map bits_of (bytes ++ byte ∷ []) ≡ flat_map bits_of bytes ++ bits_of byte
 bits_more [] byte = refl

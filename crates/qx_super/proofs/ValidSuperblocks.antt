@@ -8,7 +8,7 @@ use Rattle.qx_super.specs.Checksum.{checksum_of}
 use Rattle.qx_super.specs.Superblock.{fields_in, order_of, fits_device, valid_in, superblock_of}
 
 -- the bytes from 8 on, as the code takes them
-from_eight : (bytes : List ℕ) → take (length bytes - 8) (drop 8 bytes) ≡ drop 8 bytes
+pub from_eight : (bytes : List ℕ) → take (length bytes - 8) (drop 8 bytes) ≡ drop 8 bytes
 from_eight bytes = take_all (length bytes - 8) (drop 8 bytes) (omega (arith, length-drop 8 bytes))
 
 -- all three tests passed

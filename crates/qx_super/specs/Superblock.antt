@@ -1,5 +1,5 @@
 -- What 512 bytes say, and when they are a valid superblock.
-use Rattle.std.specs.Prelude.{ℕ, ◌+◌, ◌*◌, Bool, List, drop, slice_range, nat_le, ◌==◌, ◌&&◌, ◌||◌, not, Option, Some, None, Result, Ok, Err, if◌then◌else◌}
+use Rattle.std.specs.Prelude.{ℕ, ◌+◌, ◌*◌, Bool, false, List, drop, slice_range, nat_le, ◌==◌, ◌&&◌, not, Option, Some, None, Result, Ok, Err, if◌then◌else◌}
 use Rattle.qx_fields.specs.declared.order.Order.{Order}
 use Rattle.qx_fields.specs.declared.order.Order.TheVariants.{Little, Big}
 use Rattle.qx_fields.specs.Number.{field}
@@ -60,6 +60,15 @@ root_named s Fourth = s.fourth
 -- the order in which the magic stands
 unfoldable pub order_of : List ℕ → Option Order
 order_of bytes = if field Little 4 bytes 0 == 0x68191122 then Some Little else (if field Big 4 bytes 0 == 0x68191122 then Some Big else None)
+
+-- in this order the number at 4 is the checksum of what follows
+abbrev pub has_checksum_in : Option Order → List ℕ → Bool
+has_checksum_in None bytes = false
+has_checksum_in (Some order) bytes = field order 4 bytes 4 == checksum_of (drop 8 bytes)
+
+-- the bytes have the magic and a right checksum, whatever else they say
+abbrev pub has_right_checksum : List ℕ → Bool
+has_right_checksum bytes = has_checksum_in (order_of bytes) bytes
 
 -- the byte at which the second area stands, behind the last block
 abbrev pub second_place_of : Superblock → ℕ

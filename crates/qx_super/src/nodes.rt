@@ -1,8 +1,8 @@
 //! Root nodes: the nodes that a superblock holds itself.
 ghost use Rattle.std.specs.Prelude.{◌≡◌, length};
-ghost use Rattle.qx_super.specs.RootNode.{root_of};
+ghost use Rattle.qx_super.specs.RootNode.{root_of, root_bytes, FitsRoot};
 
-use qx_fields::{Order, get32s, get64};
+use qx_fields::{Order, get32s, get64, put32s, put64};
 use qx_geom::Root;
 
 /// The node that 80 bytes are. Its mode byte and its six spare bytes are passed over.
@@ -18,6 +18,19 @@ pub fn read_root(bytes: &[u8], order: Order) -> Root
         pointers,
         levels: bytes[72],
     }
+}
+
+/// Fills 80 bytes with a node. Its mode byte and its six spare bytes become 0.
+pub fn write_root(root: &Root, order: Order, into: &mut [u8])
+    requires { length into.old ≡ 80 }
+    ensures bytes { into.new ≡ root_bytes order root.now }
+    ensures read_back { root_of order into.new ≡ root.now }
+    ensures fits { FitsRoot root.now }
+{
+    into.fill(0);
+    put64(order, into, 0, root.size);
+    put32s(order, into, 8, &root.pointers);
+    into[72] = root.levels;
 }
 
 #[cfg(test)]
@@ -55,5 +68,24 @@ mod tests {
         };
         assert_eq!(rt; read_root(&LITTLE, Order::Little), want);
         assert_eq!(rt; read_root(&BIG, Order::Big), want);
+    }
+
+    #[test]
+    fn a_node_of_one_level_is_written_over_whatever_stood_there(rt: HostRuntime) {
+        let mut pointers = [ABSENT; 16];
+        pointers[0] = 0x0A;
+        pointers[2] = 0x0102_0304;
+        pointers[15] = 0x0C;
+        let root = Root {
+            size: 0x0102_0304_0506_0708,
+            pointers,
+            levels: 1,
+        };
+        for (order, mut want) in [(Order::Little, LITTLE), (Order::Big, BIG)] {
+            want[73..].fill(0);
+            let mut bytes = [0xFF; 80];
+            write_root(&root, order, &mut bytes);
+            assert_eq!(rt; bytes, want, "{order:?}");
+        }
     }
 }
