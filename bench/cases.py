@@ -4,7 +4,8 @@
     python3 bench/cases.py              compares bench/verify.py with the table
     python3 bench/cases.py --bytes      prints each case as changed bytes of its volume, in both byte orders
 
-EMPTY, POINTERS and PART are the maker's volumes of 65,536 bytes with 16, 80 and 18 inodes, made at moment 1000.
+EMPTY, POINTERS, PART and SIXTEEN are the maker's volumes of 65,536 bytes with 16, 80, 18 and 64 inodes, made at moment
+1000.
 
 Each case stands for a code, a reason, or a byte that no test reads, and holds in both byte orders. Superblocks that
 are changed get their right checksum again, but where a case says otherwise. `bench/compare` tries the program on them.
@@ -44,8 +45,10 @@ EMPTY = Base(16, [], 6, 5, "clean area 2 serial 2 free blocks 85 free inodes 15"
 POINTERS = Base(80, [], 23, 22, "clean area 2 serial 2 free blocks 51 free inodes 79")
 # The last inode leaf, block 11, has inodes 17 and 18 and then 256 bytes past the size. The root directory is in block 12.
 PART = Base(18, [], 7, 6, "clean area 2 serial 2 free blocks 83 free inodes 17")
-# Block 11 has the root's rows `.`, `..`, d, a, l, p, h; block 12 those of d. Block 14 is the leaf of long name 0.
-# Block 10 is free; blocks 11 to 18 are held.
+# An Inode tree of just 16 leaves has no pointer block. The root directory is in block 34.
+SIXTEEN = Base(64, [], 18, 17, "clean area 2 serial 2 free blocks 61 free inodes 63")
+# Block 11 has the root's rows `.`, `..`, d, a, l, p, h, q; block 12 those of d. Block 14 is the leaf of long name 0.
+# Block 10 is free; blocks 11 to 24 are held.
 TREE = Base(
     16,
     [
@@ -53,15 +56,18 @@ TREE = Base(
         Entry("file", 0, b"a", 3),  # inode 3, block 13
         Entry("file", 1, NAME),  # inode 4, record 2 of d
         Entry("link", 0, b"l", target=b"a"),  # inode 5, block 15
-        Entry("file", 0, b"p", 17 * BLOCKSIZE, has_hole=True),  # inode 6, leaves 0 and 16 in 16 and 17, pointers in 18
+        Entry("file", 0, b"p", 130 * BLOCKSIZE, has_hole=True),  # inode 6: leaves 0, 129 in 16, 17 below pointers 18, 19
         Entry("same", 0, b"h"),  # inode 6
+        # inode 7: leaves 0, 2099 in 20, 21 below pointers 22, 23 of level 1, and 24 of level 2, words 0 and 16
+        Entry("file", 0, b"q", 2100 * BLOCKSIZE, has_hole=True),
     ],
     6,
     5,
-    "clean area 2 serial 2 free blocks 78 free inodes 10",
+    "clean area 2 serial 2 free blocks 72 free inodes 9",
 )
-BASES = {"EMPTY": EMPTY, "POINTERS": POINTERS, "PART": PART, "TREE": TREE}
-DATA_BLOCKS = {"TREE": (16, 17)}  # leaves of p, whose bytes no test reads: they are made 0, so that the image is short
+BASES = {"EMPTY": EMPTY, "POINTERS": POINTERS, "PART": PART, "SIXTEEN": SIXTEEN, "TREE": TREE}
+# Leaves of p and q, whose bytes no test reads: they are made 0, so that the image differs from the maker's in few bytes.
+DATA_BLOCKS = {"TREE": (16, 17, 20, 21)}
 
 
 def block_at(block):
@@ -107,6 +113,7 @@ SUPER_FIELDS = {
     "flags": (24, 4),
     "version1": (28, 2),
     "version2": (30, 2),
+    "blocksize": (48, 4),
     "num_inodes": (52, 4),
     "free_inodes": (56, 4),
     "num_blocks": (60, 4),
@@ -227,6 +234,11 @@ def root(name, part, value, area=2):
     return lambda edited: edited.put(AREAS[area] + ROOT_PLACES[name] + at, width, value)
 
 
+def shape(blocksize, count):
+    """Another block size and number of blocks in both areas."""
+    return [change for area in AREAS for change in (number(area, "blocksize", blocksize), number(area, "num_blocks", count))]
+
+
 def unsealed(edited):
     """The checksums stay as they were."""
     edited.sealed = False
@@ -259,14 +271,15 @@ def foreign(reason, at):
 
 
 SIGNED = name_sums(NAME)[1]
-FOREIGN_SUM = name_sums(b"x")[0]
-DIR_MODE, FILE_MODE, FIFO_MODE, NO_MODE = 0o40755, 0o100644, 0x11A4, 0x31A4
+SUM_OF_X = name_sums(b"x")[0]
+FILE_MODE, FIFO_MODE, NO_MODE = 0x81A4, 0x11A4, 0x31A4
 
-AREAS_CASES = [
+AREA_CASES = [
     ("unchanged", "EMPTY", [], EMPTY.clean, "both areas are valid; the second has the greater serial"),
     ("unchanged with pointer blocks", "POINTERS", [], POINTERS.clean, "52 user blocks, of which one is held"),
     ("unchanged with a part of a leaf", "PART", [], PART.clean, "84 user blocks, of which one is held"),
-    ("unchanged tree", "TREE", [], TREE.clean, "86 user blocks, of which 11 to 18 are held; 6 of 16 inodes are live"),
+    ("unchanged tree", "TREE", [], TREE.clean, "86 user blocks, of which 11 to 24 are held; 7 of 16 inodes are live"),
+    ("unchanged with 16 inode leaves", "SIXTEEN", [], SIXTEEN.clean, "62 user blocks, of which one is held; no level"),
     ("first area unsealed", "EMPTY", [super_byte(1, 16, 1), unsealed], EMPTY.clean,
      "the second area is looked for at the last 4,096 bytes"),
     ("second area unsealed", "EMPTY", [super_byte(2, 16, 1), unsealed],
@@ -284,6 +297,47 @@ AREAS_CASES = [
     ("device of a first area alone", "EMPTY", [length(0x2200)], "no volume", "the blocks don't fit the device"),
     ("device of nothing", "EMPTY", [length(0)], "no volume", "there is no place for an area"),
     ("device a byte longer", "EMPTY", [length(65537)], EMPTY.clean, "the length counts in whole 4,096 bytes"),
+    ("device 4,095 bytes longer", "EMPTY", [length(69631)], EMPTY.clean, "the length counts in whole 4,096 bytes"),
+    ("device 4,095 bytes longer without a first area", "EMPTY", [super_byte(1, 16, 1), unsealed, length(69631)], EMPTY.clean,
+     "the second area is looked for at 65,536 - 4,096"),
+    ("a second area that says another place", "EMPTY", [super_byte(1, 0, 0), number(2, "num_blocks", 95)], "no volume",
+     "the first isn't valid, and the second says that it stands at 60,928"),
+    ("blocks of 256 bytes", "EMPTY", [shape(256, 192)], "no volume", "the second place stays, but 256 is no block size"),
+    ("blocks of 8,192 bytes", "EMPTY", [shape(8192, 6)], "no volume", "the second place stays, but 8,192 is no block size"),
+    ("no blocks in the first superblock", "EMPTY", [number(1, "num_blocks", 0)], EMPTY.clean,
+     "the first isn't valid; the second is looked for at the end"),
+    ("one block too many for the device", "EMPTY", [number(1, "num_blocks", 104)], EMPTY.clean,
+     "0x3200 + 104 * 512 is 66,048, so the first isn't valid; the second is looked for at the end"),
+    ("as many blocks as fit the device", "EMPTY", [number(1, "num_blocks", 103)], foreign(1, 0),
+     "0x3200 + 103 * 512 is 65,536, so the first is valid; the second is looked for at 65,024 and isn't there"),
+    ("superblocks at the device's end", "EMPTY", [length(61952), inode(1, "levels", 6)], damaged(1, 1),
+     "the second superblock ends with the device, and its half is the one that is damaged"),
+]
+
+# A file of d that is all hole, with a size at the reach of its levels and one byte above it. Each level has 128 times the
+# reach of the one below.
+REACHES = [8192 << 7 * levels for levels in range(6)]
+REACH_CASES = [
+    *((f"a hole of {size} bytes", "TREE", [inode(4, "size", size), inode(4, "levels", levels)], TREE.clean,
+       f"{levels} levels reach it") for levels, size in enumerate(REACHES)),
+    *((f"a hole of {size + 1} bytes", "TREE", [inode(4, "size", size + 1), inode(4, "levels", levels)], damaged(1, 4),
+       f"{levels} levels don't reach it") for levels, size in enumerate(REACHES)),
+    *((f"a hole of {size} bytes, a level higher", "TREE", [inode(4, "size", size), inode(4, "levels", levels + 1)],
+       foreign(4, 4), f"{levels} levels reach it") for levels, size in enumerate(REACHES[:5])),
+]
+
+# Each kind that a mode can say, of the file a. What isn't walked doesn't meet a's block.
+KIND_LINES = {
+    0x4: (foreign(4, 3), "a directory of 3 bytes, no multiple of 512"),
+    0x8: (TREE.clean, "a file"),
+    0xA: (TREE.clean, "a link of 3 bytes"),
+    **{top: (foreign(6, 3), "a special's node isn't walked, so bit 13 has to be 0") for top in (0x1, 0x2, 0x6, 0xC)},
+}
+KIND_CASES = [
+    (f"a mode of {top << 12 | 0o644:#x}", "TREE",
+     [inode(3, "mode", top << 12 | 0o644), *([bit(13, 0)] if top in (0x1, 0x2, 0x6, 0xC) else [])],
+     *KIND_LINES.get(top, (damaged(5, 1, 11), "no kind")))
+    for top in range(16)
 ]
 
 CODE_CASES = [
@@ -292,10 +346,15 @@ CODE_CASES = [
     ("size above the levels' reach", "EMPTY", [inode(1, "size", 16 * 512 + 1)], damaged(1, 1), "no levels reach 16 leaves"),
     ("size at the levels' reach", "EMPTY", [inode(1, "size", 16 * 512)], foreign(4, 1),
      "16 leaves are reached; 15 of them are holes of a directory"),
+    *REACH_CASES,
     ("size above 2^48", "EMPTY", [inode(1, "size", 2**48 + 1), inode(1, "levels", 5)], damaged(1, 1),
      "2^48 bytes are the most, and what 5 levels of 512 bytes reach"),
     ("Inode tree larger than the volume", "EMPTY", [root("inodes", "size", 96 * 512 + 1), root("inodes", "levels", 1)],
      damaged(1, 0), "one level reaches it, and a root node's size is at most that of all blocks"),
+    ("Longfile as large as the volume", "EMPTY", [root("longfile", "size", 96 * 512), root("longfile", "levels", 1)], EMPTY.clean,
+     "all its leaves are holes, and a root node's size may be that of all blocks"),
+    ("Longfile larger than the volume", "EMPTY", [root("longfile", "size", 96 * 512 + 1), root("longfile", "levels", 1)],
+     damaged(1, 0), "one byte more"),
     ("Longfile levels above 5", "EMPTY", [root("longfile", "levels", 6)], damaged(1, 0), "also where the size is 0"),
     ("Bitmap levels above 5", "EMPTY", [root("bitmap", "levels", 255)], damaged(1, 0), "the bitmap is walked too"),
     ("a file's levels above 5", "TREE", [inode(4, "levels", 6)], damaged(1, 4), "also where the size is 0"),
@@ -307,6 +366,10 @@ CODE_CASES = [
     ("Bitmap root pointer past the blocks", "EMPTY", [root("bitmap", 0, ABSENT - 1)], damaged(2, 0, ABSENT - 1),
      "0xFFFFFFFE is no absent pointer"),
     ("word of a pointer block past the blocks", "TREE", [word(18, 0, COUNT)], damaged(2, 6, COUNT), "p's word 0 leads to leaf 0"),
+    ("word of a second pointer block past the blocks", "TREE", [word(19, 1, COUNT)], damaged(2, 6, COUNT),
+     "word 1 of the second one leads to leaf 129"),
+    ("word past the size past the blocks", "TREE", [word(19, 2, COUNT)], foreign(4, 6), "leaf 130 isn't below the size"),
+    ("word of level 2 past the blocks", "TREE", [word(24, 16, COUNT)], damaged(2, 7, COUNT), "it leads to leaves 2048 to 2175"),
     ("pointer past the size past the blocks", "EMPTY", [pointer(1, 1, COUNT)], foreign(4, 1),
      "no path to a leaf below the size has it, so it is no bad pointer"),
     ("directory read as pointer blocks", "EMPTY", [inode(1, "size", 2**48), inode(1, "levels", 5)],
@@ -319,9 +382,14 @@ CODE_CASES = [
     ("Longfile and Bitmap share a leaf", "EMPTY", [root("longfile", "size", 512), root("longfile", 0, 5)], damaged(3, 0, 5),
      "the Longfile meets it first, the bitmap again"),
     ("a pointer block that points at itself", "TREE", [word(18, 0, 18)], damaged(3, 6, 18), "p met it as its pointer block"),
-    ("two files share a leaf", "TREE", [pointer(6, 0, 13)], damaged(3, 6, 13), "a met it"),
+    ("a file's leaf as a pointer block", "TREE", [pointer(6, 0, 13)], damaged(3, 6, 13), "a met it"),
+    ("two files share a leaf", "TREE", [word(18, 0, 13)], damaged(3, 6, 13), "a met it"),
+    ("a free block as a pointer block", "TREE", [word(24, 1, 30)], damaged(3, 7, 0),
+     "its words are 0: block 0, which the active tree hasn't met, is met by the first and again by the second"),
     # 4 NoInode
     ("no room for inode 1", "EMPTY", [root("inodes", "size", 0)], damaged(4, 1), "1 * 128 is above 0"),
+    ("not quite room for inode 1", "EMPTY", [root("inodes", "size", 127)], damaged(4, 1), "1 * 128 is above 127"),
+    ("room for inode 1 alone", "EMPTY", [root("inodes", "size", 128)], foreign(2, 0), "1 * 128 isn't above 128"),
     ("row above the Inode tree", "EMPTY", [row(10, 2, 17, b"x")], damaged(4, 1, 10), "17 * 128 is above 2,048"),
     ("row past the Inode tree's part", "EMPTY", [root("inodes", "size", 2047), row(10, 2, 16, b"x")], damaged(4, 1, 10),
      "16 * 128 is above 2,047"),
@@ -331,6 +399,7 @@ CODE_CASES = [
     ("row to an inode in a hole", "EMPTY", [root("inodes", 3, ABSENT), row(10, 2, 16, b"x")], damaged(5, 1, 10),
      "inodes 13 to 16 read as zeros"),
     ("inode 1 is a file", "EMPTY", [inode(1, "mode", FILE_MODE)], damaged(5, 1), "inode 1 is a directory"),
+    *KIND_CASES,
     ("inode 1 has no kind", "EMPTY", [inode(1, "mode", NO_MODE)], damaged(5, 1), "3 is no kind"),
     # 6 LinkSize
     ("link of no bytes", "TREE", [inode(5, "size", 0)], damaged(6, 5), "1 byte at least"),
@@ -342,6 +411,7 @@ CODE_CASES = [
     ("record of length 28", "EMPTY", [byte(10, 4, 28)], damaged(7, 1, 10), "27 bytes are the most of a short name"),
     ("record of length 254", "EMPTY", [field(10, 3, "inode", 1), field(10, 3, "length", 254)], damaged(7, 1, 10),
      "also where it isn't the first"),
+    ("record of length 27", "TREE", [row(11, 8, 3, b"n" * 27)], TREE.clean, "a further row of the file a"),
     ("unused record of length 28", "EMPTY", [field(10, 3, "length", 28)], EMPTY.clean, "inode 0 is unused, whatever the length"),
     ("unused record of inode 99", "EMPTY", [field(10, 3, "inode", 99)], EMPTY.clean, "length 0 is unused, whatever the inode"),
     # 8 LongName
@@ -350,16 +420,21 @@ CODE_CASES = [
      "leaf 1 is below the size, and absent"),
     ("long name of no bytes", "TREE", [long_length(14, 0)], damaged(8, 2, 12), "1 byte at least"),
     ("long name of 511 bytes", "TREE", [long_length(14, 511)], damaged(8, 2, 12), "510 bytes at most"),
+    ("long name of 510 bytes", "TREE", [long_name(14, b"n" * 510), field(12, 2, "sum", name_sums(b"n" * 510)[0])], TREE.clean,
+     "the whole leaf"),
     ("long name in a part of a leaf", "TREE", [root("longfile", "size", 1)], foreign(7, 0),
      "leaf 0 begins below the size, so the name is there; the size is no multiple of 512"),
     # 9 LongSum
     ("long name with another sum", "TREE", [field(12, 2, "sum", 0)], damaged(9, 2, 12), "neither checksum is 0"),
     ("long name with the signed sum", "TREE", [field(12, 2, "sum", SIGNED)], TREE.clean, "the signed checksum is right as well"),
     ("sum before bytes", "TREE", [byte(14, 2, 0x2F)], damaged(9, 2, 12), "the checksum is tested before the name's bytes"),
+    ("bytes 128 and 127 with the signed sum", "TREE",
+     [long_name(14, b"\x80\x7f\x80"), field(12, 2, "sum", name_sums(b"\x80\x7f\x80")[1])], TREE.clean,
+     "128 is negative, 127 isn't"),
     # 10 SameName
     ("a name twice", "TREE", [row(11, 4, 5, b"a")], damaged(10, 1, 11), "record 3 has the name a"),
     ("a short and a long name alike", "TREE",
-     [long_name(14, b"x"), field(12, 2, "sum", FOREIGN_SUM), row(12, 3, 3, b"x")], damaged(10, 2, 12),
+     [long_name(14, b"x"), field(12, 2, "sum", SUM_OF_X), row(12, 3, 3, b"x")], damaged(10, 2, 12),
      "records of two forms, one name"),
     ("`.` twice", "TREE", [row(11, 4, 5, b".")], damaged(10, 1, 11), "tested before what `.` names"),
     ("a name twice before its inode", "TREE", [row(11, 4, 17, b"a")], damaged(10, 1, 11), "tested before the inode"),
@@ -422,8 +497,10 @@ REASON_CASES = [
     ("another num_blocks", "EMPTY", [number(1, "num_blocks", 95)], foreign(1, 0),
      "the second area is looked for at 60,928 and isn't there, so the first is active"),
     ("15 inodes", "EMPTY", [number(1, "num_inodes", 15), number(2, "num_inodes", 15)], foreign(1, 0), "16 inodes at least"),
-    ("too many inodes for two halves", "EMPTY", [number(1, "num_inodes", 200), number(2, "num_inodes", 200)], foreign(1, 0),
-     "each half would have 52 blocks"),
+    ("too many inodes for two halves", "EMPTY", [number(1, "num_inodes", 149), number(2, "num_inodes", 149)], foreign(1, 0),
+     "each half would have 1 + 38 + 1 blocks, and with 17 more there would be 97"),
+    ("inodes for two halves", "EMPTY", [number(1, "num_inodes", 148), number(2, "num_inodes", 148)], foreign(2, 0),
+     "each half would have 1 + 37 + 1 blocks, which fit; the Inode root node isn't theirs"),
     ("version 2", "EMPTY", [number(2, "version1", 2)], foreign(1, 0), "version1 is 1"),
     ("fourth root with a size", "EMPTY", [root("fourth", "size", 1)], foreign(1, 0), "it is empty"),
     ("fourth root with a pointer", "EMPTY", [root("fourth", 15, 20)], foreign(1, 0), "all its pointers are absent"),
@@ -467,14 +544,21 @@ REASON_CASES = [
     ("levels above the least", "TREE", [inode(4, "levels", 1)], foreign(4, 4), "size 0 has no level"),
     ("a Longfile's levels above the least", "EMPTY", [root("longfile", "levels", 1)], foreign(4, 0), "0 is the Longfile"),
     ("a Longfile's pointer past the size", "EMPTY", [root("longfile", 0, 20)], foreign(4, 0), "0 is the Longfile"),
-    ("a word past the size", "TREE", [word(18, 17, 30)], foreign(4, 6), "p has leaves 0 to 16"),
-    ("a pointer block without leaves", "TREE", [word(18, 0, ABSENT), word(18, 16, ABSENT), bit(16, 0), bit(17, 0)],
-     foreign(4, 6), "p's pointer block has no present leaf"),
+    ("a word past the size", "TREE", [word(19, 2, 30)], foreign(4, 6), "p has leaves 0 to 129"),
+    ("a word of level 2 past the size", "TREE", [word(24, 17, 30)], foreign(4, 7), "it would lead to leaf 2176 and on"),
+    ("a word in a hole below the size", "TREE", [word(18, 17, 30)], foreign(3, 30), "p meets block 30 as leaf 17"),
+    ("a leaf more", "TREE", [word(18, 17, 30), bit(30, 1), number(2, "free_blocks", 71)],
+     "clean area 2 serial 2 free blocks 71 free inodes 9", "leaf 17 is a hole no more"),
+    ("a pointer block without leaves", "TREE", [word(19, 1, ABSENT), bit(17, 0)], foreign(4, 6),
+     "p's second pointer block has no present leaf"),
+    ("a pointer block of level 2 without leaves", "TREE",
+     [word(24, 0, ABSENT), word(24, 16, ABSENT), *(bit(block, 0) for block in (20, 21, 22, 23))], foreign(4, 7),
+     "q's pointer block has no pointer"),
     ("a directory of no bytes", "EMPTY", [inode(1, "size", 0), bit(10, 0), pointer(1, 0, ABSENT)], foreign(4, 1),
      "a directory's size isn't 0"),
     ("a directory of a part of a leaf", "EMPTY", [inode(1, "size", 480)], foreign(4, 1), "no multiple of 512"),
     ("a directory with a hole", "EMPTY", [inode(1, "size", 1024)], foreign(4, 1), "leaf 1 is a hole"),
-    ("two foreign nodes", "TREE", [inode(4, "levels", 1), word(18, 17, 30)], foreign(4, 4), "the least inode"),
+    ("two foreign nodes", "TREE", [inode(4, "levels", 1), word(19, 2, 30)], foreign(4, 4), "the least inode"),
     # 5
     ("dots swapped", "EMPTY", [row(10, 0, 1, b".."), row(10, 1, 1, b".")], foreign(5, 1), "`.` is the first record"),
     ("dots swapped below", "TREE", [row(12, 0, 1, b".."), row(12, 1, 2, b".")], foreign(5, 2), "in d"),
@@ -489,8 +573,6 @@ REASON_CASES = [
     ("an ext_mode", "EMPTY", [inode(1, "ext_mode", 1)], foreign(6, 1), "it is 0"),
     ("the first unnamed byte", "EMPTY", [inode_byte(1, 102, 1)], foreign(6, 1), "it is 0"),
     ("the last unnamed byte", "EMPTY", [inode_byte(1, 127, 1)], foreign(6, 1), "it is 0"),
-    ("a special", "TREE", [inode(3, "mode", FIFO_MODE), bit(13, 0)], foreign(6, 3),
-     "a special's node isn't walked, so bit 13 has to be 0"),
     ("a special's block", "TREE", [inode(3, "mode", FIFO_MODE)], foreign(3, 13), "a special's node isn't walked"),
     ("a byte in an inode not reached", "EMPTY", [inode_byte(16, 127, 1)], foreign(6, 16), "128 bytes 0"),
     ("an inode without a row", "TREE", [*no_row(11, 3), bit(13, 0)], foreign(6, 3), "a is reached no more"),
@@ -498,19 +580,19 @@ REASON_CASES = [
     # 7
     ("a Longfile of a part of a leaf", "TREE", [root("longfile", "size", 511)], foreign(7, 0), "no multiple of 512"),
     ("a long name without a record", "TREE", [*no_row(12, 2), *inode_cleared(4)], foreign(7, 0), "leaf 0 is named by none"),
-    ("a long name with two records", "TREE", [long_row(11, 7, 4, 0, name_sums(NAME)[0])], foreign(7, 0),
+    ("a long name with two records", "TREE", [long_row(11, 8, 4, 0, name_sums(NAME)[0])], foreign(7, 0),
      "inode 4 has two rows, which is fine, over one leaf, which isn't"),
     ("a leaf of the Longfile too many", "TREE", [root("longfile", "size", 1024), root("longfile", 1, 30), bit(30, 1)],
      foreign(7, 1), "leaf 1 is named by none; what it holds isn't read"),
     ("a hole in the Longfile", "TREE", [root("longfile", "size", 1024)], TREE.clean, "an absent leaf needs no record"),
-    ("a long record of a short name", "TREE", [long_name(14, b"x"), field(12, 2, "sum", FOREIGN_SUM)], TREE.clean,
+    ("a long record of a short name", "TREE", [long_name(14, b"x"), field(12, 2, "sum", SUM_OF_X)], TREE.clean,
      "no reason forbids it"),
     ("bytes of a record that no test reads", "TREE", [byte(12, 64 + 5, 1), byte(12, 64 + 31, 1), byte(11, 64 + 31, 1)],
      TREE.clean, "behind a short name, and around a long record's fields"),
 ]
 
 ORDERS = ("little", "big")
-CASES = [Case(*fields) for fields in AREAS_CASES + CODE_CASES + ORDER_CASES + REASON_CASES]
+CASES = [Case(*fields) for fields in AREA_CASES + CODE_CASES + ORDER_CASES + REASON_CASES]
 
 
 def flat(changes):
