@@ -1,8 +1,9 @@
 #!/usr/bin/env python3
 """Says of images what the checker says of them, in the same words: a second reading of the format, for tests.
 
-It is written from the format's tables alone, in the order in which they name the tests, and shares no reading or
-layout code with the program or with bench/volume.py. It is plain: each part makes lists and looks at them.
+It is written from the format's tables alone, in the order in which they name the tests, and shares nothing with the
+program or with bench/volume.py but the checksum of examples/small.py. It is plain: each part makes lists and looks at
+them.
 
     python3 bench/verify.py IMAGE..         the checker's line for each image
     python3 bench/verify.py -s IMAGE..      the line about the superblocks alone
