@@ -3,7 +3,7 @@ use Rattle.std.proofs.Common.{◌≡◌, ℕ, ◌+◌, ◌*◌, ◌/◌, ◌<◌
 use Rattle.std.specs.Prelude.{slice_range, option_map, unwrap_or}
 use Rattle.qx_fields.specs.declared.order.Order.{Order}
 use Rattle.qx_records.specs.NameRecord.{RawRecord, raw_in}
-use Rattle.qx_records.specs.Slots.{PlacedRecord, record_at, records_from}
+use Rattle.qx_records.specs.Slots.{PlacedRecord, records_from}
 use Rattle.qx_records.proofs.RecordLists.{records_from-more, records_from-end}
 use Rattle.qx_dir.specs.declared.block.Found.{Found}
 use Rattle.qx_dir.specs.declared.block.Found.TheVariants as founds

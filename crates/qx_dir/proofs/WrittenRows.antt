@@ -1,13 +1,13 @@
 -- The records of a block in which one is written.
-use Rattle.std.proofs.Common.{◌≡◌, ◌≢◌, ℕ, ◌+◌, ◌-◌, ◌*◌, ◌/◌, ◌%◌, ◌<◌, ◌≤◌, inl, inr, List, ◌++◌, length, map, get_or, set, take, drop, sym, ◌∙◌, ap, subst, arith, append_assoc, drop-drop}
-use Rattle.std.specs.List.{range_with_len, replace_range}
+use Rattle.std.proofs.Common.{◌≡◌, ℕ, ◌+◌, ◌-◌, ◌*◌, ◌/◌, ◌<◌, ◌≤◌, inl, inr, List, ◌++◌, length, get_or, set, take, drop, sym, ◌∙◌, ap, subst, arith, append_assoc, drop-drop}
+use Rattle.std.specs.List.{replace_range}
 use Rattle.std.proofs.lemmas.Bool.{cases_eq}
 use Rattle.std.proofs.lemmas.List.{ext_get_or, get_or-set_same, get_or-set_other, length-set}
-use Rattle.std.proofs.lemmas.List.FromFn.{length-map-range_with_len, get_or-map-range_with_len}
+use Rattle.std.proofs.lemmas.List.FromFn.{get_or-map-range_with_len}
 use Rattle.qx_bytes.specs.Ranges.{put_at}
 use Rattle.qx_bytes.proofs.Puts.{length_put}
 use Rattle.qx_fields.specs.declared.order.Order.{Order}
-use Rattle.qx_records.specs.NameRecord.{RawRecord, raw_in}
+use Rattle.qx_records.specs.NameRecord.{raw_in}
 use Rattle.qx_records.specs.Slots.{PlacedRecord, record_at, records_from, records_in}
 use Rattle.qx_records.proofs.RecordLists.{record_at-put_at, record_at-put_at-other, length-records_in}
 

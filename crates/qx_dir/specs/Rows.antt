@@ -1,5 +1,5 @@
 -- The rows of a block of a directory: found by name, listed and written.
-use Rattle.std.specs.Prelude.{ℕ, Bool, true, false, not, List, Option, filter, find, length, map, option_map, unwrap_or, bytes_eq, nat_le, if◌then◌else◌}
+use Rattle.std.specs.Prelude.{ℕ, Bool, false, not, List, Option, filter, find, length, map, option_map, unwrap_or, bytes_eq, nat_le, if◌then◌else◌}
 use Rattle.qx_fields.specs.declared.order.Order.{Order}
 use Rattle.qx_records.specs.NameRecord.{RawRecord}
 use Rattle.qx_records.specs.NameRecord as raws

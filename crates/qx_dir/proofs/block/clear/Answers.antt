@@ -1,7 +1,6 @@
-use Rattle.std.proofs.Common.{◌≡◌, ℕ, ◌*◌, length, replicate, set, ◌∙◌, ap}
+use Rattle.std.proofs.Common.{◌≡◌, ℕ, ◌*◌, length, set, ◌∙◌, ap}
 use Rattle.std.proofs.lemmas.List.{length-replicate}
 use Rattle.qx_records.specs.Slots.{records_in}
-use Rattle.qx_records.proofs.WrittenRecords.{raw_in-zeros}
 use Rattle.qx_dir.proofs.WrittenRows.{part-written, records-written}
 use Rattle.qx_dir.proofs.block.clear.Goals as goal
 

@@ -1,4 +1,4 @@
-use Rattle.std.proofs.Common.{◌≡◌, ◌/◌, ◌<◌, length, sym, ◌∙◌, arith}
+use Rattle.std.proofs.Common.{sym, ◌∙◌, arith}
 use Rattle.qx_dir.proofs.FoundRows.{found-here, found-behind, found-nowhere}
 use Rattle.qx_dir.proofs.block.find.Goals as goal
 
