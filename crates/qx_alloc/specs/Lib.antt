@@ -1,0 +1,2 @@
+pub mod SpaceState
+pub mod SpaceView
