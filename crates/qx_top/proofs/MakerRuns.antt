@@ -6,7 +6,7 @@ use Rattle.qx_outside.specs.declared.event.Attachment.{Attachment}
 use Rattle.qx_outside.specs.Calls.{Did, Idles}
 use Rattle.qx_outside.specs.Causes.{Becomes, Rose}
 use Rattle.qx_outside.specs.Moments.{HoldsThroughout}
-use Rattle.qx_outside.specs.Trail.{History, gave, told_moment, after, bytes_of, lengths_asked, output}
+use Rattle.qx_outside.specs.Trail.{History, gave, told_moment, after, bytes_of, input, lengths_asked, output}
 use Rattle.qx_outside.proofs.Cuts.{image_settled}
 use Rattle.qx_outside.proofs.Throughout.{throughout_first, throughout_here, throughout_last, throughout_more, throughout_then}
 use Rattle.qx_geom.specs.declared.geometry.GeomFault.{GeomFault}
@@ -94,6 +94,10 @@ spoke_moments : (a b : History) → Spoke a b → moments_told b.deeds ≡ momen
 spoke_moments a b (inl same) = ap (λ (h : History). moments_told h.deeds) same
 spoke_moments a b (inr said) = ap (λ (h : History). moments_told h.deeds) said.1
 
+spoke_input : (a b : History) → Spoke a b → input b ≡ input a
+spoke_input a b (inl same) = ap input same
+spoke_input a b (inr said) = ap input said.1 ∙ append-nil (input a)
+
 spoke_lengths : (a b : History) → Spoke a b → lengths_asked b.deeds ≡ lengths_asked a.deeds
 spoke_lengths a b (inl same) = ap (λ (h : History). lengths_asked h.deeds) same
 spoke_lengths a b (inr said) = ap (λ (h : History). lengths_asked h.deeds) said.1
@@ -118,6 +122,7 @@ pub record IsUnderway {H : Type 0} (tells : H → Bool) (history : H → History
   pub before : IsTrue (tells new) → IsTrue (tells old)
   pub paths : Becomes (attached old) (attached new) (λ before now. now ≡ created image ∷ before)
   pub clock : IsTrue (tells new) → moments_told (history new).deeds ≡ moment ∷ moments_told (history old).deeds
+  pub taken : IsTrue (tells new) → input (history new) ≡ input (history old)
   pub silent : IsTrue (tells new) → output (history new) ≡ output (history old)
   pub any_moment : IsTrue (tells new) → IsReadyToMake (history old)
       → HoldsThroughout (LeavesByMaker (bytes_of (history old)) size (tree_for (options_of size moment))) (history old) (history new)
@@ -138,6 +143,7 @@ module _ {H : Type 0} (tells : H → Bool) (history : H → History) (attached :
       before = λ t. asked_clock.before (idle.before t);
       paths = became;
       clock = λ t. ap (λ (h : History). moments_told h.deeds) (begun t);
+      taken = λ t. ap input (begun t) ∙ append-nil (input (history a));
       silent = λ t. ap output (begun t) ∙ append-nil (output (history a));
       any_moment = λ t ready.
           let o = options_of size moment in
@@ -155,6 +161,7 @@ module _ {H : Type 0} (tells : H → Bool) (history : H → History) (attached :
       before = λ t. attached_first.before (at_each.before t);
       paths = subst (λ (now : Option (List Attachment)). Becomes (attached a) now (λ before now. now ≡ created image ∷ before)) (sym there) became;
       clock = λ t. (quiet t).moments ∙ attached_first.clock (at_each.before t);
+      taken = λ t. (quiet t).taken ∙ attached_first.taken (at_each.before t);
       silent = λ t. (quiet t).given ∙ attached_first.silent (at_each.before t);
       any_moment = λ t ready.
           let e = begun (at_each.before t) in
@@ -200,6 +207,9 @@ module _ {H : Type 0} (tells : H → Bool) (history : H → History) (attached :
     clock_end : (text : List ℕ) (owed : ℕ) → Says tells history text owed status d e → IsTrue (tells e) → moments_told (history e).deeds ≡ moment ∷ moments_told (history a).deeds
     clock_end text owed s t = spoke_moments (history d) (history e) (spoke text owed s t) ∙ under.clock (s.before t)
 
+    taken_end : (text : List ℕ) (owed : ℕ) → Says tells history text owed status d e → IsTrue (tells e) → input (history e) ≡ input (history a)
+    taken_end text owed s t = spoke_input (history d) (history e) (spoke text owed s t) ∙ under.taken (s.before t)
+
     lengths_end : (text : List ℕ) (owed : ℕ) → Says tells history text owed status d e → IsTrue (tells e) → AsksOneLength size (history a) (history e)
     lengths_end text owed s t =
         let l = spoke_lengths (history d) (history e) (spoke text owed s t) in
@@ -216,6 +226,7 @@ module _ {H : Type 0} (tells : H → Bool) (history : H → History) (attached :
       ends = inr (ended device_fault 3 s);
       paths = paths_end;
       clock = clock_end device_fault 3 s;
+      taken = taken_end device_fault 3 s;
       made = λ zero t. absurd (omega (arith, s.owes (omega arith)));
       fault = λ three t. whole_text device_fault 3 s (omega arith) t;
       cut = λ four t. inr (rose, part_of_text device_fault 3 s four t);
@@ -234,6 +245,7 @@ module _ {H : Type 0} (tells : H → Bool) (history : H → History) (attached :
           ends = elim (ended (made_line (made_of g)) 0 s) [ inl zero ↦ inl zero | inr four ↦ inr (inr four) ];
           paths = paths_end;
           clock = clock_end (made_line (made_of g)) 0 s;
+          taken = taken_end (made_line (made_of g)) 0 s;
           made = λ zero t. whole_text (made_line (made_of g)) 0 s (omega arith) t;
           fault = λ three t. absurd (omega (arith, s.owes (omega arith)));
           cut = λ four t. inl (stays t, part_of_text (made_line (made_of g)) 0 s four t);

@@ -5,7 +5,7 @@ use Rattle.qx_outside.specs.declared.event.Attachment.{Attachment}
 use Rattle.qx_outside.specs.Calls.{Idles, LeavesDevice}
 use Rattle.qx_outside.specs.Causes.{Becomes, Rose}
 use Rattle.qx_outside.specs.Moments.{HoldsThroughout}
-use Rattle.qx_outside.specs.Trail.{History, bytes_of, output}
+use Rattle.qx_outside.specs.Trail.{History, bytes_of, input, output}
 use Rattle.qx_make.specs.Cut.{IsReadyToMake, LeavesByMaker}
 use Rattle.qx_make.specs.Make.{HasMade, made_of, moments_told, tree_for}
 use Rattle.qx_make.specs.Stages.{AsksOneLength}
@@ -21,12 +21,13 @@ created image = record { path = image; create = true }
 abbrev pub AddsPartOf : List ℕ → History → History → Type 0
 AddsPartOf text old new = (n : ℕ) × (n ≤ length text) × (output new ≡ output old ++ take n text)
 
--- once the clock told this moment, the run makes the volume on the image as far as no call fails, and says so
+-- once the clock told this moment, the run makes the volume on the image as far as no call fails, says so, and takes no input
 pub record MakesAt {H : Type 0} (tells : H → Bool) (history : H → History) (attached : H → Option (List Attachment)) (dev_faults : H → ℕ) (image : List ℕ) (size : ℕ) (g : Geometry) (moment status : ℕ) (old new : H) : Type 0 where
   pub before : IsTrue (tells new) → IsTrue (tells old)
   pub ends : (status ≡ 0) ⊎ ((status ≡ 3) ⊎ (status ≡ 4))
   pub paths : Becomes (attached old) (attached new) (λ before now. now ≡ created image ∷ before)
   pub clock : IsTrue (tells new) → moments_told (history new).deeds ≡ moment ∷ moments_told (history old).deeds
+  pub taken : IsTrue (tells new) → input (history new) ≡ input (history old)
   -- what is said, and what was done then
   pub made : status ≡ 0 → IsTrue (tells new) → output (history new) ≡ output (history old) ++ made_line (made_of g)
   pub volume : status ≡ 0 → IsTrue (tells new) → HasMade (options_of size moment) g (bytes_of (history old)) (history new)

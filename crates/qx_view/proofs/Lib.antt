@@ -24,4 +24,5 @@ pub mod NodesAlike
 pub mod WalkAlike
 pub mod ReasonsAlike
 pub mod SoundLocality
+pub mod SoundPlaces
 pub mod SmallImages

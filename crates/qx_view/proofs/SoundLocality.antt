@@ -116,7 +116,7 @@ same_area Second First = inr (λ e. cc)
 same_area Second Second = inl refl
 
 -- a sound image has a geometry
-geometry_there : (m : BlockMap) (s : Superblock) (which : Which) (o : Option Geometry) → reason_with m s which o ≡ None → (g : Geometry) × (o ≡ Some g)
+pub geometry_there : (m : BlockMap) (s : Superblock) (which : Which) (o : Option Geometry) → reason_with m s which o ≡ None → (g : Geometry) × (o ≡ Some g)
 geometry_there m s which None e = absurd (cc)
 geometry_there m s which (Some g) e = (g, refl)
 

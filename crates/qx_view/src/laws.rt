@@ -111,6 +111,12 @@ pub fn the_active_half_is_held()
         → ((first_block g which ≤ b) × (b < first_block g which + g.half)) ⊎ (2 * g.half ≤ b) }
 {}
 
+/// In a sound image the tree has a place for each inode that the superblock counts.
+pub fn a_sound_image_has_a_place_for_each_inode()
+    ensures { (img : List ℕ) (t : Tree) (s : Superblock) → IsSound img t → active_super img ≡ Some s
+        → length t.inodes ≡ s.num_inodes }
+{}
+
 /// Images with one length, active area and superblock that agree on each block which the tree holds, and on the other half's pointer blocks,
 /// are both sound with this tree, or neither is.
 pub fn what_soundness_depends_on()

@@ -251,6 +251,35 @@ fn a_cut_after_each_event_leaves_the_old_volume_then_none_then_the_new_one(
 }
 
 #[test]
+fn a_cut_after_the_zeroing_writes_leaves_no_volume(rt: HostRuntime) -> Result<(), Fail> {
+    let alloc = rt.alloc();
+    let damaged = changed(SMALL.device(alloc)?, &[0x2010, 0xF010]);
+    // The moment, the first area's place zeroed and kept, the length, and both new areas zeroed.
+    let (ended, host) = ran_in_room(alloc, &MAKE, damaged, &[], 6)?;
+    assert_eq!(rt; ended, 4);
+    let zeroed = matches!(
+        host.trail(),
+        [
+            Event::Now(1000),
+            Event::Wrote { at: 0x2000, .. },
+            Event::Synced { ok: true },
+            Event::Sized {
+                len: 65536,
+                ok: true
+            },
+            Event::Wrote { at: 0x2000, .. },
+            Event::Wrote { at: 0xF000, .. },
+        ]
+    );
+    assert!(rt; zeroed);
+    assert!(rt; part(host.bytes(), 0x2000, 0x3000) == [0; 4096].as_slice());
+    assert!(rt; part(host.bytes(), 0xF000, 0x10000) == [0; 4096].as_slice());
+    let said = supers_of(alloc, host.bytes())?;
+    assert_eq!(rt; said.as_slice(), NO_VOLUME.as_bytes());
+    Ok(())
+}
+
+#[test]
 fn where_the_length_was_just_set_there_is_no_volume(rt: HostRuntime) -> Result<(), Fail> {
     let alloc = rt.alloc();
     let mut shortened = small_image(alloc)?;
