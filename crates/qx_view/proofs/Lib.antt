@@ -5,6 +5,7 @@ pub mod WalkEnds
 pub mod PassingTests
 pub mod TakenInodes
 pub mod TreeFound
+pub mod DirectoryTests
 pub mod TreeFromTests
 pub mod ApartPositions
 pub mod TestsFromTree

@@ -16,7 +16,8 @@ use Rattle.qx_records.specs.InodeRecord.{kind_of}
 use Rattle.qx_records.specs.NameRecord.{Bad, Long, RawRecord, Short}
 use Rattle.qx_records.specs.NameRecord as records
 use Rattle.qx_records.specs.NameSum.{sum_fits}
-use Rattle.qx_view.proofs.TestOrder.{first_failing-append, gone_through, if_none, or_else}
+use Rattle.qx_view.proofs.TestOrder.{first_failing-append, if_none, or_else}
+use Rattle.qx_view.specs.Walk.{gone_through}
 use Rattle.qx_view.specs.Images.{Roots, has_inode, long_name, raw_of, record_block}
 use Rattle.qx_view.specs.Reading.{is_plain, long_slot, slot_of}
 use Rattle.qx_view.specs.Walk.{Finding, Met, Place, Test, Tested, first_failing, inode_mode, is_directory_inode, named_inode, node_tests, record_tests, records_tests, row_tests, slot_name, visit_tests}

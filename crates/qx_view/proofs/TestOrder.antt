@@ -4,12 +4,7 @@ use Rattle.std.specs.Prelude.{Bool, true, false, ◌&&◌, not, if◌then◌else
 use Rattle.qx_geom.proofs.Members.{in_cases, in_head, in_tail}
 use Rattle.qx_geom.proofs.Truths.{not_so, not_true, true_or_false}
 use Rattle.qx_geom.specs.Lists.{all_differ, is_in}
-use Rattle.qx_view.specs.Walk.{Finding, Met, Test, Tested, finding_at, first_failing, met_after, met_of, passes}
-
--- the blocks that have been met, once these tests_of have been gone through
-abbrev pub gone_through : List ℕ → List Test → List ℕ
-gone_through met [] = met
-gone_through met (e ∷ es) = gone_through (met_after met e) es
+use Rattle.qx_view.specs.Walk.{Finding, Met, Test, Tested, finding_at, first_failing, gone_through, met_of, met_after, passes}
 
 -- the first finding, or else the second
 abbrev pub or_else : Option Finding → Option Finding → Option Finding

@@ -18,6 +18,7 @@ use Rattle.qx_records.specs.InodeRecord.{kind_of}
 use Rattle.qx_records.specs.NameRecord.{Bad, Long, Short, raw_in}
 use Rattle.qx_records.specs.NameRecord as records
 use Rattle.qx_records.specs.NameSum.{sum_fits}
+use Rattle.qx_view.proofs.DirectoryTests.{DirectoryFound, IsRow, IsThere, directory_kind, directory_passes, named_passes, named_row, names_in_directory, read_self}
 use Rattle.qx_view.proofs.PassingTests.{NodePasses, Passing, RowPasses, SlotsPass, fresh_directory, names_differ, node_passes, passing_each, passing_parts, passing_tested, records_pass, row_at}
 use Rattle.qx_view.proofs.TakenInodes.{HasParent, once_within, taken_listed, taken_order, taken_parent}
 use Rattle.qx_view.proofs.TreeFound.{NamedAt, TakenWith, body_found, each_self, entry_as, entry_found, entry_in, found_slots, in_entry, names_to_slots, parent_in, slots_found, slots_to_names, taken_with, tree_found}
@@ -25,65 +26,6 @@ use Rattle.qx_view.proofs.WalkEnds.{Named, RowsInRange, first, inodes, next, wal
 use Rattle.qx_view.specs.Images.{Roots, has_inode, inode_of, inode_places, long_name, raw_of}
 use Rattle.qx_view.specs.Reading.{AreRows, IsEntry, IsOfKind, IsRooted, attr_of, long_slot, slot_of, slots_read}
 use Rattle.qx_view.specs.Walk.{Taken, Tested, finding_of, inode_mode, inode_root, inode_tests, is_directory_inode, is_directory_kind, kind_tests, named_inode, named_inodes, node_tests, records_tests, root_tests, taken_from, taken_of, tests_of, top_tests}
-
--- a directory's kind is one
-directory_kind : (k : Option Kind) → is_directory_kind k ≡ true → k ≡ Some kinds.Directory
-directory_kind None e = absurd (cc)
-directory_kind (Some kinds.Directory) e = refl
-directory_kind (Some kinds.File) e = absurd (cc)
-directory_kind (Some kinds.Link) e = absurd (cc)
-directory_kind (Some kinds.Special) e = absurd (cc)
-
--- a down that names an inode
-record IsRow (s : Slot) (n : ℕ) : Type 0 where
-  pub name : List ℕ
-  pub long : Option ℕ
-  pub is : s ≡ Row n name long
-  pub plain : is_dots name ≡ false
-
--- a slot that names an inode is a row
-named_row : (s : Slot) (n : ℕ) → named_by s ≡ Some n → IsRow s n
-named_row Unused n e = absurd (cc)
-named_row (Row i name long) n e = go (is_dots name) refl e
-  where
-    go : (b : Bool) → is_dots name ≡ b → (if b then None else Some i) ≡ Some n → IsRow (Row i name long) n
-    go true d f = absurd (cc)
-    go false d f = let same : i ≡ n = cc in record { name = name; long = long; is = ap (λ z. Row z name long) same; plain = d }
-
--- a slot comes from a record
-slot_from : (g : ℕ → Option Slot) (ks : List ℕ) (slots : List Slot) (k : ℕ) (s : Slot) → map g ks ≡ map (λ s. Some s) slots → slice_get slots k ≡ Some s → (i : ℕ) × (g i ≡ Some s)
-slot_from g ks [] k s e at = absurd (cc)
-slot_from g [] (x ∷ slots) k s e at = absurd (cc)
-slot_from g (i ∷ ks) (x ∷ slots) zero s e at = let head : g i ≡ Some x = cc in let is : x ≡ s = cc in (i, head ∙ ap (λ z. Some z) is)
-slot_from g (i ∷ ks) (x ∷ slots) (suc k) s e at = let rest : map g ks ≡ map (λ s. Some s) slots = cc in slot_from g ks slots k s rest at
-
--- no down names inode 0
-row_positive : (m : BlockMap) (longfile : Root) (o : Order) (bytes : List ℕ) (n : ℕ) (name : List ℕ) (long : Option ℕ) → slot_of m longfile (raw_in o bytes) ≡ Some (Row n name long) → 0 < n
-unfolding raw_in
-row_positive m longfile o bytes n name long e = go (field o 4 bytes 0) (slice_index bytes 4) (field o 4 bytes 0 == 0) (slice_index bytes 4 == 0) (nat_le (slice_index bytes 4) 27) (slice_index bytes 4 == 255) (field o 4 bytes 8) (field o 4 bytes 12) refl e
-  where
-    long_case : (i number sum : ℕ) (x : Option (List ℕ)) → long_slot i number sum x ≡ Some (Row n name long) → i ≡ n
-    long_case i number sum None f = absurd (cc)
-    long_case i number sum (Some y) f = by_sum (sum_fits sum y) f
-      where
-        by_sum : (b : Bool) → (if b then Some (Row i y (Some number)) else None) ≡ Some (Row n name long) → i ≡ n
-        by_sum true f = cc
-        by_sum false f = absurd (cc)
-
-    go : (i c : ℕ) (a b d f : Bool) (number sum : ℕ) → (i == 0) ≡ a → slot_of m longfile (if a || b then records.Unused else if d then Short i (slice_range bytes 5 (5 + c)) else if f then Long i number sum else Bad c) ≡ Some (Row n name long) → 0 < n
-    go i c true b d f number sum z e = absurd (cc)
-    go i c false true d f number sum z e = absurd (cc)
-    go i c false false true f number sum z e = let same : i ≡ n = cc in positive i n same z
-      where
-        positive : (i n : ℕ) → i ≡ n → (i == 0) ≡ false → 0 < n
-        positive i zero is z = absurd (true_or_false (i == 0) (eq-eqb i 0 is) z)
-        positive i (suc n) is z = omega arith
-    go i c false false false true number sum z e = positive i n (long_case i number sum (long_name m longfile number) e) z
-      where
-        positive : (i n : ℕ) → i ≡ n → (i == 0) ≡ false → 0 < n
-        positive i zero is z = absurd (true_or_false (i == 0) (eq-eqb i 0 is) z)
-        positive i (suc n) is z = omega arith
-    go i c false false false false number sum z e = absurd (cc)
 
 module _ (m : BlockMap) (r : Roots) (s : HasSize m) (none : finding_of m r ≡ None) where
   -- all tests pass
@@ -136,65 +78,18 @@ module _ (m : BlockMap) (r : Roots) (s : HasSize m) (none : finding_of m r ≡ N
   pub kind_passes : (n : ℕ) (u : TakenWith (taken_of m r) n (parent_of n)) → Passing (kind_tests m r u.it (inode_root m r n) (kind_of (inode_mode m r n)))
   kind_passes n u = subst (λ z. Passing (kind_tests m r u.it (inode_root m r z) (kind_of (inode_mode m r z)))) u.inode (passing_each (inode_tests m r) (taken_of m r) u.it last_parts.1 u.among)
 
-  -- a directory that was taken_of: its node and its slots
-  record DirectoryFound (n : ℕ) (t : Taken) : Type 0 where
-    pub node : NodePasses m (inode_root m r n) (levels_fit m (inode_root m r n))
-    pub slots : List Slot
-    pub read : slots_read m r.longfile (inode_root m r n) ≡ map (λ s. Some s) slots
-    pub pass : SlotsPass m r t.inode t.parent [] t.listed slots
-
   -- a directory that was taken has a node and slots
-  directory_found : (n : ℕ) (u : TakenWith (taken_of m r) n (parent_of n)) → is_directory_inode m r n ≡ true → DirectoryFound n u.it
-  directory_found n u d =
-      let node : Root = inode_root m r n in
-      let p : Passing (kind_tests m r u.it node (Some kinds.Directory)) = subst (λ k. Passing (kind_tests m r u.it node k)) (directory_kind (kind_of (inode_mode m r n)) d) (kind_passes n u) in
-      let parts : Passing (node_tests m u.it.inode node (levels_fit m node)) × Passing (records_tests m r u.it.inode u.it.parent node [] u.it.listed (each_below (node.size / 32) (λ k. k)))
-      = passing_parts (node_tests m u.it.inode node (levels_fit m node)) (records_tests m r u.it.inode u.it.parent node [] u.it.listed (each_below (node.size / 32) (λ k. k))) p in
-      let found : (slots : List Slot) × (map (λ k. slot_of m r.longfile (raw_of m node k)) (each_below (node.size / 32) (λ k. k)) ≡ map (λ s. Some s) slots) × SlotsPass m r u.it.inode u.it.parent [] u.it.listed slots
-      = records_pass m r u.it.inode u.it.parent node [] u.it.listed (each_below (node.size / 32) (λ k. k)) parts.1 in
-      record {
-        node = node_passes m u.it.inode node (levels_fit m node) parts.0;
-        slots = found.0;
-        read = ap (λ ks. map (λ k. slot_of m r.longfile (raw_of m node k)) ks) (sym (each_self (node.size / 32))) ∙ found.1;
-        pass = found.2;
-      }
-
-  -- only a directory names inodes
-  names_in_directory : (d n : ℕ) → is_in (named_inodes m r d) n ≡ true → (is_directory_inode m r d ≡ true) × (is_in (filter_map (λ k. named_inode m r.longfile (raw_of m (inode_root m r d) k)) (each_below ((inode_root m r d).size / 32) (λ k. k))) n ≡ true)
-  names_in_directory d n h = go (is_directory_inode m r d) h
-    where
-      go : (b : Bool) → is_in (if b then filter_map (λ k. named_inode m r.longfile (raw_of m (inode_root m r d) k)) (each_below ((inode_root m r d).size / 32) (λ k. k)) else []) n ≡ true
-          → (b ≡ true) × (is_in (filter_map (λ k. named_inode m r.longfile (raw_of m (inode_root m r d) k)) (each_below ((inode_root m r d).size / 32) (λ k. k))) n ≡ true)
-      go true h = (refl, h)
-      go false h = absurd (cc)
-
-  -- its records are its slots
-  read_self : (d : ℕ) (slots : List Slot) → slots_read m r.longfile (inode_root m r d) ≡ map (λ s. Some s) slots → map (λ k. slot_of m r.longfile (raw_of m (inode_root m r d) k)) (each_below ((inode_root m r d).size / 32) (λ k. k)) ≡ map (λ s. Some s) slots
-  read_self d slots read = ap (λ ks. map (λ k. slot_of m r.longfile (raw_of m (inode_root m r d) k)) ks) (each_self ((inode_root m r d).size / 32)) ∙ read
-
-  -- what a walked directory names is there, has a kind and is not 0
-  record IsThere (n : ℕ) : Type 0 where
-    pub there : has_inode r.inodes n ≡ true
-    pub kind : is_some (kind_of (inode_mode m r n)) ≡ true
-    pub positive : 0 < n
+  directory_found : (n : ℕ) (u : TakenWith (taken_of m r) n (parent_of n)) → is_directory_inode m r n ≡ true → DirectoryFound m r n u.it
+  directory_found n u d = directory_passes m r n u.it (kind_passes n u) d
 
   -- what a directory that was taken names is there
-  named_there : (d n : ℕ) → is_in (inodes (taken_of m r)) d ≡ true → is_in (named_inodes m r d) n ≡ true → IsThere n
-  named_there d n h k =
-      let t : (is_directory_inode m r d ≡ true) × (is_in (filter_map (λ k. named_inode m r.longfile (raw_of m (inode_root m r d) k)) (each_below ((inode_root m r d).size / 32) (λ k. k))) n ≡ true) = names_in_directory d n k in
-      let u : TakenWith (taken_of m r) d (parent_of d) = it_of d h in
-      let f : DirectoryFound d u.it = directory_found d u t.0 in
-      let at : NamedAt f.slots n = names_to_slots (λ k. slot_of m r.longfile (raw_of m (inode_root m r d) k)) (each_below ((inode_root m r d).size / 32) (λ k. k)) f.slots n (read_self d f.slots f.read) t.1 in
-      let w : IsRow at.slot n = named_row at.slot n at.names in
-      let here : slice_get f.slots at.place ≡ Some (Row n w.name w.long) = at.at ∙ ap (λ z. Some z) w.is in
-      let pass : (before : List (List ℕ)) × (after : List ℕ) × RowPasses m r u.it.inode u.it.parent before after n w.name = row_at m r u.it.inode u.it.parent [] u.it.listed f.slots f.pass at.place n w.name w.long here in
-      let from : (i : ℕ) × (slot_of m r.longfile (raw_of m (inode_root m r d) i) ≡ Some (Row n w.name w.long)) = slot_from (λ k. slot_of m r.longfile (raw_of m (inode_root m r d) k)) (each_below ((inode_root m r d).size / 32) (λ k. k)) f.slots at.place (Row n w.name w.long) (read_self d f.slots f.read) here in
-      record { there = pass.2.there w.plain; kind = pass.2.kind w.plain; positive = row_positive m r.longfile m.order (piece_of m (inode_root m r d) (from.0 * 32) 32) n w.name w.long from.1 }
+  named_there : (d n : ℕ) → is_in (inodes (taken_of m r)) d ≡ true → is_in (named_inodes m r d) n ≡ true → IsThere m r n
+  named_there d n h k = named_passes m r d (it_of d h).it n (kind_passes d (it_of d h)) k
 
   -- and has a place in the Inode tree
   rows_in_range : RowsInRange m r (inode_places r) (taken_of m r)
   rows_in_range d n h k =
-      let is : IsThere n = named_there d n h k in
+      let is : IsThere m r n = named_there d n h k in
       (is.positive, leb-true n (inode_places r) is.there)
 
   -- what is named is taken
@@ -206,10 +101,10 @@ module _ (m : BlockMap) (r : Roots) (s : HasSize m) (none : finding_of m r ≡ N
   some_kind k e = ap (λ o. is_some o) (directory_kind k e)
 
   -- all that was taken is there
-  all_there : (n : ℕ) → is_in (inodes (taken_of m r)) n ≡ true → IsThere n
+  all_there : (n : ℕ) → is_in (inodes (taken_of m r)) n ≡ true → IsThere m r n
   all_there n h =
       elim (parent_known n h).0 [
-        | inl one ↦ subst IsThere (sym one.0) (record { there = top_there.0; kind = some_kind (kind_of (inode_mode m r 1)) top_there.1; positive = omega arith })
+        | inl one ↦ subst (IsThere m r) (sym one.0) (record { there = top_there.0; kind = some_kind (kind_of (inode_mode m r 1)) top_there.1; positive = omega arith })
         | inr up ↦ named_there (parent_of n) n (walked_named (parent_of n) up.0) up.1
       ]
 
@@ -232,7 +127,7 @@ module _ (m : BlockMap) (r : Roots) (s : HasSize m) (none : finding_of m r ≡ N
   kind_entry : (n : ℕ) (k : Kind) (attr : Attr) (u : TakenWith (taken_of m r) n (parent_of n)) → kind_of (inode_mode m r n) ≡ Some k → IsOfKind m r.longfile (inode_root m r n) k (entry_as attr m r.longfile (inode_root m r n) (parent_of n) (Some k))
   kind_entry n kinds.Special attr u is = record { size = refl; present = refl; body = refl }
   kind_entry n kinds.Directory attr u is =
-      let f : DirectoryFound n u.it = directory_found n u (ap (λ o. is_directory_kind o) is) in
+      let f : DirectoryFound m r n u.it = directory_found n u (ap (λ o. is_directory_kind o) is) in
       record { levels = f.node.fit; size = refl; present = refl; body = f.read ∙ ap (λ z. map (λ s. Some s) z) (sym (found_slots (slots_read m r.longfile (inode_root m r n)) f.slots f.read)) }
   kind_entry n kinds.File attr u is =
       let p : NodePasses m (inode_root m r n) (levels_fit m (inode_root m r n)) = node_passes m u.it.inode (inode_root m r n) (levels_fit m (inode_root m r n)) (subst (λ k. Passing (kind_tests m r u.it (inode_root m r n) k)) is (kind_passes n u)) in
@@ -248,13 +143,13 @@ module _ (m : BlockMap) (r : Roots) (s : HasSize m) (none : finding_of m r ≡ N
   -- what is taken has its entry in the tree
   entry_here : (n : ℕ) → is_in (inodes (taken_of m r)) n ≡ true → entry_of (tree_found m r) n ≡ Some (entry_found m r (parent_of n) n)
   entry_here n h =
-      let is : IsThere n = all_there n h in
+      let is : IsThere m r n = all_there n h in
       entry_in m r n h is.positive (leb-true n (inode_places r) is.there)
 
   -- the entry that is read is that of the inode
   entry_is : (n : ℕ) → is_in (inodes (taken_of m r)) n ≡ true → IsEntry m r n (entry_found m r (parent_of n) n)
   entry_is n h =
-      let there : IsThere n = all_there n h in
+      let there : IsThere m r n = all_there n h in
       let k : (k : Kind) × (kind_of (inode_mode m r n) ≡ Some k) = kind_known n h in
       record {
         there = there.there;
@@ -285,9 +180,9 @@ module _ (m : BlockMap) (r : Roots) (s : HasSize m) (none : finding_of m r ≡ N
   -- what a directory's records name, its slots name
   names_in : (d n : ℕ) → is_in (inodes (taken_of m r)) d ≡ true → is_in (named_inodes m r d) n ≡ true → Names (tree_found m r) d n
   names_in d n h k =
-      let w : (is_directory_inode m r d ≡ true) × (is_in (filter_map (λ k. named_inode m r.longfile (raw_of m (inode_root m r d) k)) (each_below ((inode_root m r d).size / 32) (λ k. k))) n ≡ true) = names_in_directory d n k in
-      let f : DirectoryFound d (it_of d h).it = directory_found d (it_of d h) w.0 in
-      let at : NamedAt f.slots n = names_to_slots (λ k. slot_of m r.longfile (raw_of m (inode_root m r d) k)) (each_below ((inode_root m r d).size / 32) (λ k. k)) f.slots n (read_self d f.slots f.read) w.1 in
+      let w : (is_directory_inode m r d ≡ true) × (is_in (filter_map (λ k. named_inode m r.longfile (raw_of m (inode_root m r d) k)) (each_below ((inode_root m r d).size / 32) (λ k. k))) n ≡ true) = names_in_directory m r d n k in
+      let f : DirectoryFound m r d (it_of d h).it = directory_found d (it_of d h) w.0 in
+      let at : NamedAt f.slots n = names_to_slots (λ k. slot_of m r.longfile (raw_of m (inode_root m r d) k)) (each_below ((inode_root m r d).size / 32) (λ k. k)) f.slots n (read_self m r d f.slots f.read) w.1 in
       (at.place, (at.slot, subst (λ z. slice_get z at.place ≡ Some at.slot) (sym (directory_slots d h w.0)) at.at, at.names))
 
   -- only a directory has slots
@@ -319,10 +214,10 @@ module _ (m : BlockMap) (r : Roots) (s : HasSize m) (none : finding_of m r ≡ N
   names_out : (d k n : ℕ) → NamesAt (tree_found m r) d k n → (is_in (inodes (taken_of m r)) d ≡ true) × (is_in (named_inodes m r d) n ≡ true)
   names_out d k n (x, at, names) =
       let f : SlotFound d k x = slot_found d k x at in
-      let dir : DirectoryFound d (it_of d f.walked).it = directory_found d (it_of d f.walked) f.dir in (
+      let dir : DirectoryFound m r d (it_of d f.walked).it = directory_found d (it_of d f.walked) f.dir in (
         f.walked,
         ap (λ b. is_in (if b then filter_map (λ k. named_inode m r.longfile (raw_of m (inode_root m r d) k)) (each_below ((inode_root m r d).size / 32) (λ k. k)) else []) n) f.dir
-            ∙ slots_to_names (λ k. slot_of m r.longfile (raw_of m (inode_root m r d) k)) (each_below ((inode_root m r d).size / 32) (λ k. k)) dir.slots n k x (read_self d dir.slots dir.read) f.at names,
+            ∙ slots_to_names (λ k. slot_of m r.longfile (raw_of m (inode_root m r d) k)) (each_below ((inode_root m r d).size / 32) (λ k. k)) dir.slots n k x (read_self m r d dir.slots dir.read) f.at names,
       )
 
   -- ---- the tree by itself
@@ -441,7 +336,7 @@ module _ (m : BlockMap) (r : Roots) (s : HasSize m) (none : finding_of m r ≡ N
   rows d p dir =
       let k : DirectoryIs d p = directory_is d p dir in
       let u : TakenWith (taken_of m r) d (parent_of d) = it_of d k.walked in
-      let f : DirectoryFound d u.it = directory_found d u k.dir in
+      let f : DirectoryFound m r d u.it = directory_found d u k.dir in
       let pass : SlotsPass m r d p [] u.it.listed f.slots = subst (λ z. SlotsPass m r d z [] u.it.listed f.slots) (u.parent ∙ sym k.parent) (subst (λ z. SlotsPass m r z u.it.parent [] u.it.listed f.slots) u.inode f.pass) in
       subst (λ z. AreRows d p z) (sym (directory_slots d k.walked k.dir)) (record {
         plain = λ k n name long at. (row_at m r d p [] u.it.listed f.slots pass k n name long at).2.plain;

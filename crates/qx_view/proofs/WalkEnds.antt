@@ -46,7 +46,7 @@ abbrev pub AllInRange : ℕ → List ℕ → Type 0
 AllInRange p ns = (n : ℕ) → is_in ns n ≡ true → (0 < n) × (n ≤ p)
 
 -- what is put into the list is taken_of from what is unlisted
-new_counted : (p : ℕ) (ns listed : List ℕ) → AllInRange p ns → length (new_ones ns listed) + unlisted p (listed_after ns listed) ≤ unlisted p listed
+pub new_counted : (p : ℕ) (ns listed : List ℕ) → AllInRange p ns → length (new_ones ns listed) + unlisted p (listed_after ns listed) ≤ unlisted p listed
 new_counted p [] listed all = omega arith
 new_counted p (n ∷ ns) listed all = go (is_in listed n) refl
     (new_counted p ns listed (λ k h. all k (in_tail n k ns h))) (new_counted p ns (n ∷ listed) (λ k h. all k (in_tail n k ns h)))
@@ -158,7 +158,7 @@ taken_closed m r p (suc fuel) (e ∷ queue) listed room all =
     }
 
 -- no more are unlisted than there are
-unlisted_start : (p : ℕ) (listed : List ℕ) → unlisted p listed ≤ p
+pub unlisted_start : (p : ℕ) (listed : List ℕ) → unlisted p listed ≤ p
 unlisted_start zero listed = omega arith
 unlisted_start (suc p) listed = omega (arith, unlisted_start p listed, at_most (is_in listed (suc p)))
   where

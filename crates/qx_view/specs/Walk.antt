@@ -187,6 +187,11 @@ abbrev pub met_after : List ℕ → Test → List ℕ
 met_after met (Tested code inode block b) = met
 met_after met (Met inode block) = block ∷ met
 
+-- what was met once these tests were gone through
+abbrev pub gone_through : List ℕ → List Test → List ℕ
+gone_through met [] = met
+gone_through met (e ∷ es) = gone_through (met_after met e) es
+
 -- a test that failed, by its code, its inode and the block or the absent pointer
 pub record Finding : Type 0 where
   pub code : ℕ
