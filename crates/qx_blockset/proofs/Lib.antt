@@ -3,3 +3,4 @@ pub mod FirstAbsent
 pub mod MembersInWords
 pub mod SetUnion
 pub mod UnitedWords
+pub mod BytesOfWords

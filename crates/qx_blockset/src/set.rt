@@ -1,5 +1,6 @@
 //! A set of block numbers, in words of 64 bits.
-ghost use Rattle.std.specs.Prelude.{◌≡◌, ◌<◌, ◌≤◌, ◌/◌, ◌^◌, ℕ, false, true, IfOk, IfSome, IfNone, bit_or, count_ones, length, replicate, slice_index, slice_set, sum_by};
+ghost use Rattle.std.specs.Prelude.{◌≡◌, ◌==◌, ◌<◌, ◌≤◌, ◌+◌, ◌*◌, ◌/◌, ◌^◌, ℕ, false, true, IfOk, IfSome, IfNone, bit_or, count_ones, length, replicate, slice_index, slice_set, sum_by};
+ghost use Rattle.std.specs.Int.{bit_at};
 ghost use Rattle.qx_blockset.specs.LowBits.{IsBelow};
 ghost use Rattle.qx_blockset.specs.Members.{has, HasAll, limit_of, count_of, union_of};
 
@@ -60,6 +61,14 @@ impl BlockSet {
         ensures { result ≡ has self.now b }
     {
         self.words[b as usize / 64] >> (b % 64) & 1 == 1
+    }
+
+    /// The eight numbers from `place * 8` on, a bit each; those from the limit on aren't in the set.
+    pub fn byte(&self, place: u32) -> u8
+        requires { place * 8 < limit_of self.now }
+        ensures { (k : ℕ) → k < 8 → (bit_at result k == 1) ≡ has self.now (place * 8 + k) }
+    {
+        (self.words[place as usize / 8] >> (place % 8 * 8) & 0xFF) as u8
     }
 
     /// Puts the number into the set.

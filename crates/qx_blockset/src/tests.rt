@@ -84,6 +84,38 @@ fn a_copy_has_the_same_members(rt: HostRuntime) -> Result<(), Fail> {
     Ok(())
 }
 
+#[test]
+fn a_byte_has_eight_numbers(rt: HostRuntime) -> Result<(), Fail> {
+    let cases: [(&str, u32, &[u32], u32, u8); 8] = [
+        ("none of them", 8, &[], 0, 0),
+        ("the first and the last", 64, &[56, 63], 7, 0b1000_0001),
+        ("the first of the next word", 65, &[63, 64], 8, 1),
+        (
+            "in the middle of a word",
+            130,
+            &[23, 25, 31, 32],
+            3,
+            0b1000_0010,
+        ),
+        ("past the limit", 67, &[64, 66], 8, 0b0000_0101),
+        ("all below the limit", 3, &[0, 1, 2], 0, 0b0000_0111),
+        ("a full one", 16, &[8, 9, 10, 11, 12, 13, 14, 15], 1, 0xFF),
+        (
+            "beside a full one",
+            16,
+            &[8, 9, 10, 11, 12, 13, 14, 15],
+            0,
+            0,
+        ),
+    ];
+    for (name, limit, members, place, want) in cases {
+        let set = of(rt.alloc(), limit, members)?;
+        assert!(rt; place < set.limit().div_ceil(8), "{name}");
+        assert_eq!(rt; set.byte(place), want, "{name}");
+    }
+    Ok(())
+}
+
 // The set of these numbers below `limit`.
 fn of(alloc: Global, limit: u32, members: &[u32]) -> Result<BlockSet, AllocError> {
     let mut set = BlockSet::new(alloc, limit)?;

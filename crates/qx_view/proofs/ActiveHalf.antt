@@ -4,9 +4,11 @@ use Rattle.std.specs.Prelude.{Bool, true, false, Option, Some, None, Result, Ok,
 use Rattle.std.specs.List.{list_all}
 use Rattle.std.proofs.lemmas.Bool.{eqb-true, leb-true, cases_lt}
 use Rattle.std.proofs.lemmas.Slice.Eq.{bytes_eq-Decides}
+use Rattle.qx_geom.proofs.BlockSizes.{block_size-bounds}
+use Rattle.qx_geom.proofs.LevelCounts.{level_count-leaves, tree_blocks-is}
 use Rattle.qx_geom.proofs.Truths.{and_left, and_right}
 use Rattle.qx_geom.proofs.VolumeNumbers.{IsGeometry-keeps, IsGeometry-of, VolumeNumbers, first_block-le, geometry_of-numbers, tree-below, tree-within, tree_leaves-le}
-use Rattle.qx_geom.specs.Layout.{IsGeometry, IsPointerBlock, first_block, geometry_of, is_block_size, numbers_of, system_root_of, system_tree, tree_base, tree_blocks, tree_leaves, tree_size}
+use Rattle.qx_geom.specs.Layout.{IsGeometry, IsPointerBlock, first_block, geometry_of, is_block_size, level_count, levels_for, numbers_of, system_root_of, system_tree, tree_base, tree_blocks, tree_leaves, tree_size}
 use Rattle.qx_geom.specs.Pointer.{ceil_div}
 use Rattle.qx_geom.specs.declared.area.Which.TheVariants.{First, Second}
 use Rattle.qx_geom.specs.declared.area.Which.{Which}
@@ -16,7 +18,8 @@ use Rattle.qx_geom.specs.declared.root.Root.{Root}
 use Rattle.qx_model.specs.Tree.{Tree}
 use Rattle.qx_nodes.specs.BlockMap.{BlockMap}
 use Rattle.qx_nodes.specs.Content.{HasSize}
-use Rattle.qx_nodes.specs.Leaves.{leaves_below}
+use Rattle.qx_nodes.proofs.MetLeaves.{node_leaf_found}
+use Rattle.qx_nodes.specs.Leaves.{Block, leaf_of, leaves_below}
 use Rattle.qx_nodes.specs.Visits.{Visit, visits_of}
 use Rattle.qx_super.specs.Active.{active_area, active_super}
 use Rattle.qx_super.specs.Superblock.{Superblock}
@@ -24,7 +27,7 @@ use Rattle.qx_super.specs.declared.choice.Pick.TheVariants as picks
 use Rattle.qx_view.proofs.AlikeLists.{member_passes}
 use Rattle.qx_view.proofs.ImageTrees.{HasSize-image_blocks, some_same}
 use Rattle.qx_view.proofs.OuterNodes.{inode_outer, longfile_outer, outer_has}
-use Rattle.qx_view.proofs.SystemTrees.{IsInTree, met_in_tree, tree_met}
+use Rattle.qx_view.proofs.SystemTrees.{IsInTree, met_in_tree, met_of_level, tree_met}
 use Rattle.qx_view.specs.Images.{image_blocks, main_roots}
 use Rattle.qx_view.specs.Reading.{HasNode, IsHeld, IsTreeOf, OfFurther, OfInode, OfInodes, OfLongfile, Owner}
 use Rattle.qx_view.specs.Sound.{IsSound, first_some, geometry_if, has_system_trees, is_laid_out, is_same_root, is_system_tree, is_written_by, outer_blocks, reason_at, reason_of, reason_with, reasons_in, written_geometry}
@@ -107,7 +110,7 @@ record IsHalfTree (m : BlockMap) (g : Geometry) (which : Which) (bitmap : Bool) 
   words : is_system_tree m (tree_base g which bitmap) (tree_leaves g bitmap) ≡ true
 
 -- the root node of a superblock that its half must have
-abbrev root_of_half : Superblock → Bool → Root
+abbrev pub root_of_half : Superblock → Bool → Root
 root_of_half s true = s.bitmap
 root_of_half s false = s.inode
 
@@ -144,6 +147,24 @@ module _ (m : BlockMap) (s : Superblock) (g : Geometry) (which : Which) (of : Is
   pub bitmap_leaves_are : leaves_below m s.bitmap ≡ g.bitmap_leaves
   bitmap_leaves_are = ap (λ node. leaves_below m node) (half_tree true).root ∙ ap (λ z. ceil_div (tree_size g true) z) each ∙ of.leaves true
 
+  -- leaf i of the bitmap is the block that stands i behind the half's first
+  pub bitmap_leaf : (i : ℕ) → i < g.bitmap_leaves → leaf_of m s.bitmap i ≡ Block (first_block g which + i)
+  bitmap_leaf i low =
+      let tree : IsHalfTree m g which true s.bitmap = half_tree true in
+      let numbers : VolumeNumbers g = IsGeometry-keeps g of.volume in
+      let bounds = block_size-bounds m.size sized in
+      let all : tree_base g which true + tree_blocks m.size g.bitmap_leaves ≤ first_block g which + g.half = subst (λ z. tree_base g which true + tree_blocks z g.bitmap_leaves ≤ first_block g which + g.half) (sym each) (tree-within g which true of.volume) in
+      let below : tree_base g which true + tree_blocks m.size g.bitmap_leaves ≤ 2 ^ 28 = subst (λ z. tree_base g which true + tree_blocks z g.bitmap_leaves ≤ 2 ^ 28) (sym each) (tree-below g which true of.volume) in
+      let counted : tree_base g which true + tree_blocks m.size g.bitmap_leaves ≤ m.count = omega (arith, all, first_block-le g which, numbers.room, count, of.count) in
+      let there : i < level_count m.size g.bitmap_leaves 0 = omega (arith, low, level_count-leaves m.size g.bitmap_leaves sized) in
+      let few : g.bitmap_leaves ≤ tree_blocks m.size g.bitmap_leaves = omega (arith, tree_blocks-is m.size g.bitmap_leaves sized) in
+      let met : Contains (visits_of m (system_tree m.size (tree_base g which true) g.bitmap_leaves (tree_size g true))) (record { level = 0; index = i; block = first_block g which + 0 + i })
+      = met_of_level m (tree_base g which true) g.bitmap_leaves (tree_size g true) sized tree.words (tree_leaves-le g true of.volume) below counted
+      (ap (λ z. ceil_div (tree_size g true) z) each ∙ of.leaves true) (levels_for m.size g.bitmap_leaves) 0 i (omega arith) there in
+      subst (λ node. leaf_of m node i ≡ Block (first_block g which + i)) (sym tree.root)
+      (node_leaf_found m (system_tree m.size (tree_base g which true) g.bitmap_leaves (tree_size g true)) (record { level = 0; index = i; block = first_block g which + 0 + i }) (omega (arith, bounds.pointers_from)) met refl (omega (arith, low, few, counted))
+      ∙ ap (λ b. Block b) (let e : first_block g which + 0 + i ≡ first_block g which + i = omega arith in e))
+
   -- the blocks of a tree of the half lie in the half
   tree_in_half : (bitmap : Bool) (b : ℕ) → IsInTree m.size (tree_base g which bitmap) (tree_leaves g bitmap) b → (first_block g which ≤ b) × (b < first_block g which + g.half)
   tree_in_half bitmap b inside = (omega (arith, start bitmap, inside.from), omega (arith, inside.to, subst (λ z. tree_base g which bitmap + tree_blocks z (tree_leaves g bitmap) ≤ first_block g which + g.half) (sym each) (tree-within g which bitmap of.volume)))
@@ -153,13 +174,13 @@ module _ (m : BlockMap) (s : Superblock) (g : Geometry) (which : Which) (of : Is
       start false = omega arith
 
   -- what its root node meets lies in the half
-  root_in_half : (bitmap : Bool) (v : Visit) → Contains (visits_of m (root_of_half s bitmap)) v → (first_block g which ≤ v.block) × (v.block < first_block g which + g.half)
+  pub root_in_half : (bitmap : Bool) (v : Visit) → Contains (visits_of m (root_of_half s bitmap)) v → (first_block g which ≤ v.block) × (v.block < first_block g which + g.half)
   root_in_half bitmap v c =
       let tree : IsHalfTree m g which bitmap (root_of_half s bitmap) = half_tree bitmap in
       tree_in_half bitmap v.block (met_in_tree m (tree_base g which bitmap) (tree_leaves g bitmap) sized tree.words (tree_size g bitmap) v (subst (λ node. Contains (visits_of m node) v) tree.root c))
 
   -- and its root node meets each block of the tree
-  root_meets : (bitmap : Bool) (b : ℕ) → IsInTree m.size (tree_base g which bitmap) (tree_leaves g bitmap) b → (v : Visit) × Contains (visits_of m (root_of_half s bitmap)) v × (v.block ≡ b)
+  pub root_meets : (bitmap : Bool) (b : ℕ) → IsInTree m.size (tree_base g which bitmap) (tree_leaves g bitmap) b → (v : Visit) × Contains (visits_of m (root_of_half s bitmap)) v × (v.block ≡ b)
   root_meets bitmap b inside =
       let tree : IsHalfTree m g which bitmap (root_of_half s bitmap) = half_tree bitmap in
       let numbers : VolumeNumbers g = IsGeometry-keeps g of.volume in
@@ -171,7 +192,7 @@ module _ (m : BlockMap) (s : Superblock) (g : Geometry) (which : Which) (of : Is
       (met.0, subst (λ node. Contains (visits_of m node) met.0) (sym tree.root) met.1, met.2)
 
   -- a block of the half is one of its bitmap's tree, or of its inodes'
-  half_is_trees : (b : ℕ) → first_block g which ≤ b → b < first_block g which + g.half → (bitmap : Bool) × IsInTree m.size (tree_base g which bitmap) (tree_leaves g bitmap) b
+  pub half_is_trees : (b : ℕ) → first_block g which ≤ b → b < first_block g which + g.half → (bitmap : Bool) × IsInTree m.size (tree_base g which bitmap) (tree_leaves g bitmap) b
   half_is_trees b from to =
       let numbers : VolumeNumbers g = IsGeometry-keeps g of.volume in
       let blocks : (n : ℕ) → tree_blocks m.size n ≡ tree_blocks g.blocksize n = λ n. ap (λ z. tree_blocks z n) each in

@@ -41,17 +41,17 @@ count_flat p f (x ∷ xs) =
     ∙ sym (sum_by-cons (λ x. count_by p (f x)) x xs)
 
 -- a sum over an image
-sum_map : {A : Type 0} (f : A → ℕ) (h : ℕ → A) (xs : List ℕ) → sum_by f (map h xs) ≡ sum_by (λ k. f (h k)) xs
+pub sum_map : {A : Type 0} (f : A → ℕ) (h : ℕ → A) (xs : List ℕ) → sum_by f (map h xs) ≡ sum_by (λ k. f (h k)) xs
 sum_map f h [] = refl
 sum_map f h (x ∷ xs) = sum_by-cons f (h x) (map h xs) ∙ ap (λ z. f (h x) + z) (sum_map f h xs) ∙ sym (sum_by-cons (λ k. f (h k)) x xs)
 
 -- sums of what is alike
-sum_alike : (f g : ℕ → ℕ) (xs : List ℕ) → ((x : ℕ) → f x ≡ g x) → sum_by f xs ≡ sum_by g xs
+pub sum_alike : (f g : ℕ → ℕ) (xs : List ℕ) → ((x : ℕ) → f x ≡ g x) → sum_by f xs ≡ sum_by g xs
 sum_alike f g [] same = refl
 sum_alike f g (x ∷ xs) same = sum_by-cons f x xs ∙ (λ i. same x i + sum_alike f g xs same i) ∙ sym (sum_by-cons g x xs)
 
 -- a sum of sums
-sum_plus : (f g : ℕ → ℕ) (xs : List ℕ) → sum_by (λ x. f x + g x) xs ≡ sum_by f xs + sum_by g xs
+pub sum_plus : (f g : ℕ → ℕ) (xs : List ℕ) → sum_by (λ x. f x + g x) xs ≡ sum_by f xs + sum_by g xs
 sum_plus f g [] = refl
 sum_plus f g (x ∷ xs) = omega (arith, sum_by-cons (λ x. f x + g x) x xs, sum_by-cons f x xs, sum_by-cons g x xs, sum_plus f g xs)
 
@@ -96,7 +96,7 @@ sum_only w g a (suc n) low high = go (nat_eq w a) refl (λ above. sum_only w g (
         omega (arith, sum_by-cons (only w g) a (range_with_len (a + 1) n), here, more above)
 
 -- a sum over a range of what a function is on a list's numbers is its sum over the list
-sum_members : (g : ℕ → ℕ) (ws : List ℕ) (a n : ℕ) → all_differ ws ≡ true → ((w : ℕ) → Contains ws w → (a ≤ w) × (w < a + n)) → sum_by (λ k. if is_in ws k then g k else 0) (range_with_len a n) ≡ sum_by g ws
+pub sum_members : (g : ℕ → ℕ) (ws : List ℕ) (a n : ℕ) → all_differ ws ≡ true → ((w : ℕ) → Contains ws w → (a ≤ w) × (w < a + n)) → sum_by (λ k. if is_in ws k then g k else 0) (range_with_len a n) ≡ sum_by g ws
 sum_members g [] a n d within = sum_zero (range_with_len a n)
 sum_members g (w ∷ ws) a n d within =
     let out : is_in ws w ≡ false = not_true (is_in ws w) (and_left (not (is_in ws w)) (all_differ ws) d) in

@@ -196,7 +196,7 @@ module _ (m : BlockMap) (base n size : ℕ) (sized : is_block_size m.size ≡ tr
       below-ceil_div n (per_block m.size ^ suc level) (index / per_block m.size) (power_pos m.size (suc level) sized) (omega (arith, ap (λ z. index / per_block m.size * z) up, same, less, begins))
 
   -- each block of a level so many below the top is met
-  met_of_level : (down level index : ℕ) → level + down ≡ levels_for m.size n → index < level_count m.size n level → Contains (visits_of m root) (tree_visit level index)
+  pub met_of_level : (down level index : ℕ) → level + down ≡ levels_for m.size n → index < level_count m.size n level → Contains (visits_of m root) (tree_visit level index)
   met_of_level zero level index at within = let top : levels_for m.size n ≡ level = omega arith in subst (λ k. Contains (visits_of m root) (tree_visit k index)) top (met_from_root index (subst (λ k. index < level_count m.size n k) (sym top) within))
   met_of_level (suc down) level index at within =
       let bounds = block_size-bounds m.size sized in
