@@ -1,8 +1,9 @@
 -- Each block that the maker writes has a block's bytes.
-use Rattle.std.proofs.Common.{◌≡◌, ℕ, ◌+◌, ◌-◌, ◌*◌, ◌/◌, Bool, true, false, ◌++◌, length, replicate, arith, length-append, if◌then◌else◌, ◌==◌}
+use Rattle.std.proofs.Common.{◌≡◌, ℕ, ◌+◌, ◌-◌, ◌*◌, ◌/◌, Bool, true, false, ◌++◌, length, replicate, arith, length-append, refl, ◌∙◌, if◌then◌else◌, ◌==◌}
 use Rattle.std.specs.Prelude.{nat_lt}
 use Rattle.std.proofs.lemmas.List.{length-replicate}
 use Rattle.std.proofs.lemmas.List.FromFn.{length-map-range_with_len}
+use Rattle.qx_bytes.proofs.Pieces.{length-joined}
 use Rattle.qx_fields.specs.declared.order.Order.{Order}
 use Rattle.qx_fields.specs.Number.{digits}
 use Rattle.qx_fields.proofs.Fields.{length_digits}
@@ -12,8 +13,11 @@ use Rattle.qx_geom.specs.declared.geometry.Geometry.{Geometry}
 use Rattle.qx_geom.specs.Layout.{IsGeometry, first_block, system_word_of}
 use Rattle.qx_geom.proofs.BlockSizes.{block_size-bounds}
 use Rattle.qx_geom.proofs.VolumeNumbers.{IsGeometry-keeps}
-use Rattle.qx_make.specs.Blocks.{bitmap_byte, bitmap_leaf_bytes, half_block_bytes, inode_leaf_bytes, made_block_bytes, pointer_block_bytes, top_block, top_directory_bytes, top_inode_bytes}
+use Rattle.qx_records.specs.WrittenInode.{inode_bytes}
+use Rattle.qx_records.proofs.WrittenInodes.{length_inode_bytes}
+use Rattle.qx_make.specs.Blocks.{bitmap_byte, bitmap_leaf_bytes, half_block_bytes, inode_leaf_bytes, made_block_bytes, pointer_block_bytes, top_block, top_directory_bytes, top_inode}
 use Rattle.qx_make.proofs.PartsInOrder.{length-parts}
+use Rattle.qx_make.proofs.TopDirectory.{row_pieces}
 use Rattle.qx_make.proofs.WholeBlocks.{block_size-words}
 
 module _ (g : Geometry) (e : IsGeometry g) (order : Order) (moment : ℕ) where
@@ -27,24 +31,19 @@ module _ (g : Geometry) (e : IsGeometry g) (order : Order) (moment : ℕ) where
       let words = block_size-words g.blocksize (IsGeometry-keeps g e).block_size in
       omega (arith, words, length-parts (λ (w : ℕ). digits order 4 (system_word_of g which bitmap b w)) 4 (λ w. length_digits order 4 (system_word_of g which bitmap b w)) (g.blocksize / 4) 0)
 
-  length-top_inode : (size block : ℕ) → length (top_inode_bytes order size block moment) ≡ 128
-  unfolding top_inode_bytes
-  length-top_inode size block =
-      omega (arith, length-append {A = ℕ}, length_digits order 8 size, length_digits order 4 moment, length_digits order 2 0x41ED, length_digits order 4 block)
-
   length-inode_leaf : (i : ℕ) → length (inode_leaf_bytes g order moment i) ≡ g.blocksize
   unfolding inode_leaf_bytes
   length-inode_leaf i = by_test (i == 0)
     where
-      by_test : (b : Bool) → length (if b then top_inode_bytes order g.blocksize (top_block g) moment ++ replicate (g.blocksize - 128) 0 else replicate g.blocksize 0) ≡ g.blocksize
-      by_test true = let bounds = block_size-bounds g.blocksize (IsGeometry-keeps g e).block_size in omega (arith, length-append {A = ℕ}, length-top_inode g.blocksize (top_block g), length-replicate {A = ℕ} (g.blocksize - 128) 0, bounds.size_from)
+      by_test : (b : Bool) → length (if b then inode_bytes order (top_inode g.blocksize (top_block g) moment) ++ replicate (g.blocksize - 128) 0 else replicate g.blocksize 0) ≡ g.blocksize
+      by_test true = let bounds = block_size-bounds g.blocksize (IsGeometry-keeps g e).block_size in omega (arith, length-append {A = ℕ}, length_inode_bytes order (top_inode g.blocksize (top_block g) moment) refl, length-replicate {A = ℕ} (g.blocksize - 128) 0, bounds.size_from)
       by_test false = length-replicate g.blocksize 0
 
   length-top_directory : length (top_directory_bytes order g.blocksize) ≡ g.blocksize
   unfolding top_directory_bytes
   length-top_directory =
       let bounds = block_size-bounds g.blocksize (IsGeometry-keeps g e).block_size in
-      omega (arith, length-append {A = ℕ}, length_digits order 4 1, length-replicate {A = ℕ} (g.blocksize - 64) 0, bounds.size_from)
+      length-joined (row_pieces order) (replicate (g.blocksize - 64) 0) ∙ (let e : 64 + length {A = ℕ} (replicate (g.blocksize - 64) 0) ≡ g.blocksize = omega (arith, length-replicate {A = ℕ} (g.blocksize - 64) 0, bounds.size_from) in e)
 
   length-half_block : (which : Which) (r : ℕ) → length (half_block_bytes g order moment which r) ≡ g.blocksize
   length-half_block which r = by_tests (nat_lt r g.bitmap_leaves) (nat_lt r (g.bitmap_leaves + g.bitmap_pointers)) (nat_lt r (g.bitmap_leaves + g.bitmap_pointers + g.inode_leaves))

@@ -1,13 +1,12 @@
 -- The root directory of a new volume: its one leaf and its records.
-use Rattle.std.proofs.Common.{◌≡◌, ℕ, inl, inr, ◌⊎◌, zero, suc, ◌+◌, ◌-◌, ◌*◌, ◌/◌, ◌%◌, ◌≤◌, ◌<◌, List, [], ◌∷◌, ◌++◌, false, refl, ap, sym, ◌∙◌, arith, take, drop, Option, Some, None}
+use Rattle.std.proofs.Common.{◌≡◌, ℕ, inl, inr, ◌⊎◌, zero, suc, ◌+◌, ◌-◌, ◌*◌, ◌/◌, ◌%◌, ◌≤◌, ◌<◌, List, [], ◌∷◌, false, refl, ap, sym, ◌∙◌, arith, lit<, lit≤, take, drop, Option, Some, None}
 use Rattle.std.specs.Prelude.{Contains, replicate, slice_range, slice_index_or, ◌==◌, ◌||◌, if◌then◌else◌, map, filter_map, nat_le, nat_lt}
 use Rattle.std.specs.List.{cons_option, range_with_len}
 use Rattle.std.proofs.Math.Nat.{div-eq_of_lt, div-eq_of_lt-le, mod-eq_of_lt}
 use Rattle.std.proofs.lemmas.Bool.{cases_eq, cond-true, cond-false, lt-ltb, ne_eqb, or_from}
 use Rattle.std.proofs.lemmas.List.{take-replicate}
+use Rattle.qx_bytes.proofs.Pieces.{joined, joined-append, length-joined, range_of_piece}
 use Rattle.qx_fields.specs.declared.order.Order.{Order}
-use Rattle.qx_fields.specs.declared.order.Order.TheVariants.{Little, Big}
-use Rattle.qx_fields.specs.Number.{field}
 use Rattle.qx_geom.specs.declared.geometry.Geometry.{Geometry}
 use Rattle.qx_geom.specs.declared.root.Root.{Root}
 use Rattle.qx_geom.specs.Lists.{each_below}
@@ -22,13 +21,15 @@ use Rattle.qx_nodes.specs.Visits.{visits_of}
 use Rattle.qx_nodes.proofs.LeafPaths.{by_one}
 use Rattle.qx_records.specs.NameRecord.{Short, raw_in}
 use Rattle.qx_records.specs.NameRecord as records
+use Rattle.qx_records.proofs.WrittenRecords.{raw_in-short_bytes, raw_in-zeros}
 use Rattle.qx_model.specs.Tree.{Unused, Row, Slot}
 use Rattle.qx_view.specs.Images.{raw_of}
 use Rattle.qx_view.specs.Reading.{slot_of, slots_read}
-use Rattle.qx_make.specs.Blocks.{row_bytes, top_block, top_directory_bytes}
+use Rattle.qx_make.specs.Blocks.{one_leaf, top_block, top_directory_bytes}
 use Rattle.qx_make.specs.NewVolume.{empty_root}
 use Rattle.qx_make.proofs.NewBlocks.{NewBlocks, blocks, top_bytes}
-use Rattle.qx_make.proofs.NewInodes.{drop_zeros, one_leaf}
+use Rattle.qx_make.proofs.NewInodes.{drop_zeros}
+use Rattle.qx_make.proofs.TopDirectory.{row_pieces}
 
 -- ---- one leaf
 
@@ -46,31 +47,22 @@ one_visit m size block there one =
 
 -- the first record is `.`
 first_record : (order : Order) (blocksize : ℕ) → raw_in order (slice_range (top_directory_bytes order blocksize) 0 32) ≡ Short 1 (46 ∷ [])
-unfolding raw_in field top_directory_bytes
-first_record Little blocksize = refl
-first_record Big blocksize = refl
+unfolding top_directory_bytes
+first_record order blocksize =
+    ap (λ (l : List ℕ). raw_in order l) (range_of_piece 0 (row_pieces order) (replicate (blocksize - 64) 0) (lit< tt)) ∙ raw_in-short_bytes order 1 (46 ∷ []) (lit< tt) (lit< tt) (lit< tt) (lit≤ tt)
 
 -- the second is `..`
 second_record : (order : Order) (blocksize : ℕ) → raw_in order (slice_range (top_directory_bytes order blocksize) 32 64) ≡ Short 1 (46 ∷ 46 ∷ [])
-unfolding raw_in field top_directory_bytes
-second_record Little blocksize = refl
-second_record Big blocksize = refl
-
--- zeros are an unused one
-zero_record : (order : Order) → raw_in order (replicate 32 0) ≡ records.Unused
-unfolding raw_in field
-zero_record Little = refl
-zero_record Big = refl
-
--- both rows
-abbrev both_rows : Order → List ℕ
-both_rows order = row_bytes order 1 (46 ∷ []) ++ row_bytes order 1 (46 ∷ 46 ∷ [])
+unfolding top_directory_bytes
+second_record order blocksize =
+    ap (λ (l : List ℕ). raw_in order l) (range_of_piece 1 (row_pieces order) (replicate (blocksize - 64) 0) (lit< tt)) ∙ raw_in-short_bytes order 1 (46 ∷ 46 ∷ []) (lit< tt) (lit< tt) (lit< tt) (lit≤ tt)
 
 -- they fill 64 bytes, and zeros follow
 behind_rows : (order : Order) (blocksize o : ℕ) → 64 ≤ o → drop o (top_directory_bytes order blocksize) ≡ replicate (blocksize - 64 - (o - 64)) 0
 unfolding top_directory_bytes
-behind_rows Little blocksize o behind = drop_zeros (both_rows Little) 64 o (blocksize - 64) refl behind
-behind_rows Big blocksize o behind = drop_zeros (both_rows Big) 64 o (blocksize - 64) refl behind
+behind_rows order blocksize o behind =
+    let rows : List ℕ = joined (row_pieces order) [] in
+    ap (λ (l : List ℕ). drop o l) (sym (joined-append (row_pieces order) (replicate (blocksize - 64) 0))) ∙ drop_zeros rows 64 o (blocksize - 64) (length-joined (row_pieces order) []) behind
 
 -- so many unused records
 free_slots : (f : ℕ → Option Slot) (a n : ℕ) → ((k : ℕ) → a ≤ k → k < a + n → f k ≡ Some Unused) → map f (range_with_len a n) ≡ map (λ s. Some s) (replicate n Unused)
@@ -142,7 +134,7 @@ module _ (v : NewBlocks) where
       ∙ ap (λ (l : List ℕ). raw_in v.order (take (k * 32 + 32 - k * 32) l)) (behind_rows v.order g.blocksize (k * 32) (omega arith))
       ∙ ap (λ n. raw_in v.order (take n (replicate (g.blocksize - 64 - (k * 32 - 64)) 0))) (sym long)
       ∙ ap (λ (l : List ℕ). raw_in v.order l) (take-replicate 32 (g.blocksize - 64 - (k * 32 - 64)) 0 (omega arith))
-      ∙ zero_record v.order
+      ∙ raw_in-zeros v.order
 
   -- the slots of the new directory
   abbrev pub top_slots : List Slot

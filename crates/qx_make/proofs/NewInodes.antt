@@ -1,14 +1,12 @@
 -- The inodes of a new volume: the root directory's, and zeros.
-use Rattle.std.proofs.Common.{◌≡◌, ℕ, inl, inr, zero, suc, ◌+◌, ◌-◌, ◌*◌, ◌/◌, ◌%◌, ◌≤◌, ◌<◌, ◌^◌, List, [], ◌∷◌, ◌++◌, true, false, refl, ap, sym, ◌∙◌, arith, length, take, drop}
-use Rattle.std.specs.Prelude.{replicate, slice_range, ◌==◌}
+use Rattle.std.proofs.Common.{◌≡◌, ℕ, inl, inr, zero, suc, ◌+◌, ◌-◌, ◌*◌, ◌/◌, ◌%◌, ◌≤◌, ◌<◌, ◌^◌, List, [], ◌∷◌, ◌++◌, true, false, refl, ap, sym, ◌∙◌, arith, lit<, length, take, drop}
+use Rattle.std.specs.Prelude.{All, replicate, slice_range, ◌==◌}
 use Rattle.std.proofs.Math.Nat.{add-mul, div-mul-le_self, one-mul, zero-div, zero-mod, zero-mul}
 use Rattle.std.proofs.lemmas.Nat.{div-add-mod', le-div}
 use Rattle.std.proofs.lemmas.Bool.{and_parts, and_from, cases_eq, cond-true, cond-false, eq-eqb, ne_eqb}
+use Rattle.std.proofs.lemmas.List.Elements.{All-replicate}
 use Rattle.std.proofs.lemmas.List.{take_at, drop_at, drop-drop, drop-replicate}
 use Rattle.qx_fields.specs.declared.order.Order.{Order}
-use Rattle.qx_fields.specs.declared.order.Order.TheVariants.{Little, Big}
-use Rattle.qx_fields.specs.Number.{digits, field, fields}
-use Rattle.qx_fields.proofs.Fields.{number_digits}
 use Rattle.qx_geom.specs.declared.area.Which.{Which}
 use Rattle.qx_geom.specs.declared.geometry.Geometry.{Geometry}
 use Rattle.qx_geom.specs.declared.root.Root.{Root}
@@ -18,54 +16,37 @@ use Rattle.qx_geom.proofs.BlockSizes.{BlockSizeBounds, block_size-bounds}
 use Rattle.qx_geom.proofs.VolumeNumbers.{IsGeometry-keeps}
 use Rattle.qx_nodes.specs.BlockMap.{BlockMap}
 use Rattle.qx_nodes.specs.Content.{leaf_bytes}
-use Rattle.qx_records.specs.declared.inode.Inode.{Inode}
 use Rattle.qx_records.specs.InodeRecord.{inode_in}
+use Rattle.qx_records.specs.WrittenInode.{FitsInode, inode_bytes as bytes_of_inode}
+use Rattle.qx_records.proofs.WrittenInodes.{inode_in-inode_bytes, length_inode_bytes}
 use Rattle.qx_view.specs.Images.{inode_bytes, inode_of}
 use Rattle.qx_view.specs.Sound.{are_zero}
-use Rattle.qx_make.specs.Blocks.{inode_leaf_bytes, top_block, top_inode_bytes}
+use Rattle.qx_make.specs.Blocks.{inode_leaf_bytes, top_block, top_inode}
 use Rattle.qx_make.proofs.NewBlocks.{NewBlocks, blocks, inodes_from, leaves_filled}
 use Rattle.qx_make.proofs.NewLeaves.{inode_leaf_is}
 
 -- ---- the root directory's inode
 
--- a node of one leaf
-abbrev pub one_leaf : ℕ → ℕ → Root
-one_leaf size block = record { size = size; pointers = block ∷ replicate 15 absent; levels = 0 }
+-- its pointers fit
+pointers_fit : (block : ℕ) → block < 2 ^ 32 → All (λ p. p < 2 ^ 32) (block ∷ replicate 15 absent)
+pointers_fit block low zero d within = low
+pointers_fit block low (suc k) d within = All-replicate (λ p. p < 2 ^ 32) 15 absent (lit< tt) k d (omega arith)
 
--- a directory's inode, as the maker writes it
-abbrev pub top_inode : ℕ → ℕ → ℕ → Inode
-top_inode size block moment = record {
-  root = one_leaf size block;
-  uid = 0;
-  gid = 0;
-  ftime = moment;
-  mtime = moment;
-  atime = moment;
-  ctime = moment;
-  mode = 0x41ED;
-  ext_mode = 0;
-  status = 1;
+-- so do its other numbers
+top_inode-fits : (size block moment : ℕ) → size < 2 ^ 64 → block < 2 ^ 32 → moment < 2 ^ 32 → FitsInode (top_inode size block moment)
+top_inode-fits size block moment s b t = record {
+  size = s;
+  uid = lit< tt;
+  gid = lit< tt;
+  ftime = t;
+  mtime = t;
+  atime = t;
+  ctime = t;
+  mode = lit< tt;
+  ext_mode = lit< tt;
+  sixteen = refl;
+  pointers = pointers_fit block b;
 }
-
--- its bytes say it
-top_inode_in : (order : Order) (size block moment : ℕ) → size < 256 ^ 8 → block < 256 ^ 4 → moment < 256 ^ 4 → inode_in order (top_inode_bytes order size block moment) ≡ top_inode size block moment
-unfolding inode_in top_inode_bytes field fields
-top_inode_in Little size block moment s b t =
-    let long : field Little 8 (digits Little 8 size) 0 ≡ size = number_digits Little 8 size [] s in
-    let here : field Little 4 (digits Little 4 block) 0 ≡ block = number_digits Little 4 block [] b in
-    let when : field Little 4 (digits Little 4 moment) 0 ≡ moment = number_digits Little 4 moment [] t in
-    λ i. top_inode (long i) (here i) (when i)
-top_inode_in Big size block moment s b t =
-    let long : field Big 8 (digits Big 8 size) 0 ≡ size = number_digits Big 8 size [] s in
-    let here : field Big 4 (digits Big 4 block) 0 ≡ block = number_digits Big 4 block [] b in
-    let when : field Big 4 (digits Big 4 moment) 0 ≡ moment = number_digits Big 4 moment [] t in
-    λ i. top_inode (long i) (here i) (when i)
-
--- they are 128
-top_inode_bytes-length : (order : Order) (size block moment : ℕ) → length (top_inode_bytes order size block moment) ≡ 128
-unfolding top_inode_bytes
-top_inode_bytes-length Little size block moment = refl
-top_inode_bytes-length Big size block moment = refl
 
 -- ---- zeros
 
@@ -90,12 +71,12 @@ drop_zeros xs n o count long behind =
 pub zero_behind : (g : Geometry) (order : Order) (moment i o : ℕ) → 128 ≤ i * g.blocksize + o → are_zero (drop o (inode_leaf_bytes g order moment i)) ≡ true
 unfolding inode_leaf_bytes
 zero_behind g order moment i o behind =
-    let top : List ℕ = top_inode_bytes order g.blocksize (top_block g) moment in
+    let top : List ℕ = bytes_of_inode order (top_inode g.blocksize (top_block g) moment) in
     elim (cases_eq i 0) [
       | inl first ↦
           let none : i * g.blocksize ≡ 0 = ap (λ z. z * g.blocksize) first ∙ zero-mul g.blocksize in
           ap (λ (l : List ℕ). are_zero (drop o l)) (cond-true (i == 0) (top ++ replicate (g.blocksize - 128) 0) (replicate g.blocksize 0) (eq-eqb i 0 first))
-          ∙ ap are_zero (drop_zeros top 128 o (g.blocksize - 128) (top_inode_bytes-length order g.blocksize (top_block g) moment) (omega (arith, none, behind)))
+          ∙ ap are_zero (drop_zeros top 128 o (g.blocksize - 128) (length_inode_bytes order (top_inode g.blocksize (top_block g) moment) refl) (omega (arith, none, behind)))
           ∙ are_zero-replicate (g.blocksize - 128 - (o - 128))
       | inr later ↦
           ap (λ (l : List ℕ). are_zero (drop o l)) (cond-false (i == 0) (top ++ replicate (g.blocksize - 128) 0) (replicate g.blocksize 0) (ne_eqb i 0 later))
@@ -135,20 +116,20 @@ module _ (v : NewBlocks) (which : Which) where
   first_leaf = let many = inodes_from g v.whole in omega (arith, leaf_below 0 (omega arith), zero-div g.blocksize)
 
   -- the bytes of inode 1
-  pub top_is : inode_bytes m inodes 1 ≡ top_inode_bytes v.order g.blocksize (top_block g) v.moment
+  pub top_is : inode_bytes m inodes 1 ≡ bytes_of_inode v.order (top_inode g.blocksize (top_block g) v.moment)
   unfolding inode_leaf_bytes
   top_is =
-      let top : List ℕ = top_inode_bytes v.order g.blocksize (top_block g) v.moment in
+      let top : List ℕ = bytes_of_inode v.order (top_inode g.blocksize (top_block g) v.moment) in
       ap (λ k. slice_range (leaf_bytes m inodes k) (0 % g.blocksize) (0 % g.blocksize + 128)) (zero-div g.blocksize)
       ∙ ap (λ k. slice_range (leaf_bytes m inodes 0) k (k + 128)) (zero-mod g.blocksize)
       ∙ ap (λ (l : List ℕ). slice_range l 0 (0 + 128)) (inode_leaf_is v which 0 first_leaf)
-      ∙ take_at top (replicate (g.blocksize - 128) 0) 128 (top_inode_bytes-length v.order g.blocksize (top_block g) v.moment)
+      ∙ take_at top (replicate (g.blocksize - 128) 0) 128 (length_inode_bytes v.order (top_inode g.blocksize (top_block g) v.moment) refl)
 
   -- inode 1 is the root directory's
   pub top_inode_is : inode_of m inodes 1 ≡ top_inode g.blocksize (top_block g) v.moment
   top_inode_is =
       let b = bounds in let n = IsGeometry-keeps g v.whole in let now = v.now in
-      ap (λ (l : List ℕ). inode_in v.order l) top_is ∙ top_inode_in v.order g.blocksize (top_block g) v.moment (omega arith) (omega arith) (omega arith)
+      ap (λ (l : List ℕ). inode_in v.order l) top_is ∙ inode_in-inode_bytes v.order (top_inode g.blocksize (top_block g) v.moment) (top_inode-fits g.blocksize (top_block g) v.moment (omega arith) (omega arith) (omega arith))
 
   -- the other inodes are zeros
   pub other_is_zero : (k : ℕ) → 1 ≤ k → k < g.num_inodes → are_zero (inode_bytes m inodes (suc k)) ≡ true

@@ -23,10 +23,11 @@ use Rattle.qx_nodes.specs.Leaves.{leaves_below}
 use Rattle.qx_nodes.specs.Visits.{Visit, is_leaf, present_of}
 use Rattle.qx_nodes.proofs.LeafPaths.{by_one}
 use Rattle.qx_records.specs.declared.inode.Inode.{Inode}
+use Rattle.qx_records.specs.WrittenInode.{inode_bytes as bytes_of_inode}
 use Rattle.qx_view.specs.Images.{Roots, inode_bytes, inode_of, inode_places, raw_of}
 use Rattle.qx_view.specs.Walk.{inode_root, is_directory_inode}
 use Rattle.qx_view.specs.Sound.{are_zero, bad_long_name, bit_differs, fails_dots, fails_inodes, fails_nodes, has_bare_block, has_leaf_below, has_strays, is_foreign_directory, is_foreign_node, has_system_trees, is_same_root, is_short, is_special_inode, is_written_inode, must_be_set}
-use Rattle.qx_make.specs.Blocks.{is_taken, top_block, top_inode_bytes}
+use Rattle.qx_make.specs.Blocks.{is_taken, top_block, top_inode}
 use Rattle.qx_make.specs.NewVolume.{empty_root, new_roots}
 use Rattle.qx_make.proofs.NewBitmap.{bit_of, new_bit}
 use Rattle.qx_make.proofs.NewBlocks.{NewBlocks, blocks}
@@ -67,8 +68,8 @@ at_or_below b t c = elim (cases_order b t) [
 ]
 
 -- behind the named fields of the root directory's inode come zeros
-unnamed_zero : (order : Order) (size block moment : ℕ) → are_zero (drop 102 (top_inode_bytes order size block moment)) ≡ true
-unfolding top_inode_bytes
+unnamed_zero : (order : Order) (size block moment : ℕ) → are_zero (drop 102 (bytes_of_inode order (top_inode size block moment))) ≡ true
+unfolding bytes_of_inode
 unnamed_zero Little size block moment = refl
 unnamed_zero Big size block moment = refl
 

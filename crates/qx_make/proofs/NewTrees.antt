@@ -23,12 +23,12 @@ use Rattle.qx_model.specs.EmptyTree.{empty_tree}
 use Rattle.qx_model.specs.Tree.{Entry}
 use Rattle.qx_view.specs.Images.{Roots, inode_of, inode_places, long_name}
 use Rattle.qx_view.specs.Reading.{IsEntry, IsOfKind, IsTreeOf, attr_of}
-use Rattle.qx_make.specs.Blocks.{top_block}
+use Rattle.qx_make.specs.Blocks.{top_block, top_inode}
 use Rattle.qx_make.specs.NewVolume.{empty_root, new_roots}
 use Rattle.qx_make.proofs.EmptyTrees.{empty_places, empty_rooted, only_entry, root_entry}
 use Rattle.qx_make.proofs.NewBlocks.{NewBlocks, blocks, inodes_from, leaves_filled}
 use Rattle.qx_make.proofs.NewDirectory.{slots_are, top_node, top_visits}
-use Rattle.qx_make.proofs.NewInodes.{top_inode, top_inode_is}
+use Rattle.qx_make.proofs.NewInodes.{top_inode_is}
 use Rattle.qx_make.proofs.NewLeaves.{tree-counted}
 use Rattle.qx_make.proofs.NewPositions.{new_apart, new_tree, new_undamaged}
 

@@ -1,5 +1,5 @@
 -- What the maker writes into the blocks of both halves, and into the root directory's block behind them.
-use Rattle.std.specs.Prelude.{ℕ, ◌≡◌, ◌+◌, ◌*◌, ◌-◌, ◌^◌, ◌≤◌, Bool, true, false, ◌||◌, List, [], ◌∷◌, ◌++◌, flat_map, length, replicate, sum_by, nat_le, nat_lt, ◌==◌, if◌then◌else◌}
+use Rattle.std.specs.Prelude.{ℕ, ◌≡◌, ◌+◌, ◌*◌, ◌-◌, ◌^◌, ◌≤◌, Bool, true, false, ◌||◌, List, [], ◌∷◌, ◌++◌, flat_map, replicate, sum_by, nat_le, nat_lt, ◌==◌, if◌then◌else◌}
 use Rattle.std.specs.List.{range_with_len}
 use Rattle.qx_fields.specs.declared.order.Order.{Order}
 use Rattle.qx_fields.specs.Number.{digits}
@@ -7,9 +7,13 @@ use Rattle.qx_geom.specs.declared.area.Which.{Which}
 use Rattle.qx_geom.specs.declared.area.Which.TheVariants.{First, Second}
 use Rattle.qx_geom.specs.declared.geometry.Geometry.{Geometry}
 use Rattle.qx_geom.specs.Lists.{each_below}
-use Rattle.qx_geom.specs.Pointer.{per_block}
+use Rattle.qx_geom.specs.declared.root.Root.{Root}
+use Rattle.qx_geom.specs.Pointer.{absent, per_block}
 use Rattle.qx_geom.specs.Layout.{first_block, system_word_of}
 use Rattle.qx_nodes.specs.BlockMap.{BlockMap}
+use Rattle.qx_records.specs.declared.inode.Inode.{Inode}
+use Rattle.qx_records.specs.WrittenInode.{inode_bytes}
+use Rattle.qx_records.specs.WrittenNames.{short_bytes}
 
 -- ---- the root directory
 
@@ -17,22 +21,28 @@ use Rattle.qx_nodes.specs.BlockMap.{BlockMap}
 abbrev pub top_block : Geometry → ℕ
 top_block g = 2 * g.half
 
--- its inode as 128 bytes: size, owner and group 0, four times the moment, the mode of a directory that Mkdir makes, one pointer, levels 0, status 1
-unfoldable pub top_inode_bytes : Order → ℕ → ℕ → ℕ → List ℕ
-top_inode_bytes order size block moment =
-    digits order 8 size ++ replicate 8 0
-    ++ digits order 4 moment ++ digits order 4 moment ++ digits order 4 moment ++ digits order 4 moment
-    ++ digits order 2 0x41ED ++ replicate 2 0
-    ++ digits order 4 block ++ replicate 60 255
-    ++ 0 ∷ 1 ∷ replicate 26 0
+-- a node of one leaf
+abbrev pub one_leaf : ℕ → ℕ → Root
+one_leaf size block = record { size = size; pointers = block ∷ replicate 15 absent; levels = 0 }
 
--- a row with a short name as 32 bytes
-abbrev pub row_bytes : Order → ℕ → List ℕ → List ℕ
-row_bytes order inode name = digits order 4 inode ++ length name ∷ [] ++ name ++ replicate (27 - length name) 0
+-- its inode: one leaf of this size, owner and group 0, four times the moment, the mode of a directory that Mkdir makes, status 1
+abbrev pub top_inode : ℕ → ℕ → ℕ → Inode
+top_inode size block moment = record {
+  root = one_leaf size block;
+  uid = 0;
+  gid = 0;
+  ftime = moment;
+  mtime = moment;
+  atime = moment;
+  ctime = moment;
+  mode = 0x41ED;
+  ext_mode = 0;
+  status = 1;
+}
 
 -- the bytes of its block: the rows `.` and `..`, and unused records
 unfoldable pub top_directory_bytes : Order → ℕ → List ℕ
-top_directory_bytes order blocksize = row_bytes order 1 (46 ∷ []) ++ row_bytes order 1 (46 ∷ 46 ∷ []) ++ replicate (blocksize - 64) 0
+top_directory_bytes order blocksize = short_bytes order 1 (46 ∷ []) ++ (short_bytes order 1 (46 ∷ 46 ∷ []) ++ replicate (blocksize - 64) 0)
 
 -- ---- the bitmap
 
@@ -61,7 +71,7 @@ pointer_block_bytes g order which bitmap b = flat_map (λ w. digits order 4 (sys
 -- leaf i of the Inode tree, where inode 1 alone is live
 unfoldable pub inode_leaf_bytes : Geometry → Order → ℕ → ℕ → List ℕ
 inode_leaf_bytes g order moment i =
-    if i == 0 then top_inode_bytes order g.blocksize (top_block g) moment ++ replicate (g.blocksize - 128) 0 else replicate g.blocksize 0
+    if i == 0 then inode_bytes order (top_inode g.blocksize (top_block g) moment) ++ replicate (g.blocksize - 128) 0 else replicate g.blocksize 0
 
 -- block r of an area's half: bitmap leaves, bitmap pointer blocks, inode leaves, inode pointer blocks
 abbrev pub half_block_bytes : Geometry → Order → ℕ → Which → ℕ → List ℕ

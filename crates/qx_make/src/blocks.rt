@@ -2,10 +2,11 @@
 ghost use Rattle.std.specs.Prelude.{◌≡◌, ◌+◌, ◌*◌, ◌^◌, ◌≤◌, ◌<◌, flat_map, length};
 ghost use Rattle.std.specs.List.{range_with_len};
 ghost use Rattle.qx_geom.specs.Layout.{IsGeometry, IsPointerBlock, first_block};
-ghost use Rattle.qx_make.specs.Blocks.{bitmap_byte, bitmap_leaf_bytes, half_block_bytes, inode_leaf_bytes, is_taken, made_block_bytes, pointer_block_bytes, top_block, top_directory_bytes, top_inode_bytes};
+ghost use Rattle.qx_make.specs.Blocks.{bitmap_byte, bitmap_leaf_bytes, half_block_bytes, inode_leaf_bytes, is_taken, made_block_bytes, pointer_block_bytes, top_block, top_directory_bytes, top_inode};
 
-use qx_fields::{Order, put16, put32, put32s, put64};
-use qx_geom::{Geometry, Which};
+use qx_fields::{Order, put32};
+use qx_geom::{ABSENT, Geometry, Root, Which};
+use qx_records::{Inode, write_inode, write_short};
 
 /// The volume that is made.
 #[derive(Clone, Copy)]
@@ -98,18 +99,28 @@ fn fill_pointer_block(
     }
 }
 
-/// Fills 128 bytes with the root directory's inode.
-fn fill_top_inode(order: Order, size: u32, block: u32, moment: u32, into: &mut [u8])
-    requires { length into.old ≡ 128 }
-    ensures { into.new ≡ top_inode_bytes order size block moment }
+/// A new directory's inode: one block of this size in bytes.
+fn directory_inode(size: u32, block: u32, moment: u32) -> Inode
+    ensures { result ≡ top_inode size block moment }
 {
-    into.fill(0);
-    put64(order, into, 0, u64::from(size));
-    put32s(order, into, 16, &[moment; 4]);
-    put16(order, into, 32, TOP_MODE);
-    put32(order, into, 36, block);
-    into[40..100].fill(0xFF);
-    into[101] = DIRECTORY_STATUS;
+    let mut pointers = [ABSENT; 16];
+    pointers[0] = block;
+    Inode {
+        root: Root {
+            size: u64::from(size),
+            pointers,
+            levels: 0,
+        },
+        uid: 0,
+        gid: 0,
+        ftime: moment,
+        mtime: moment,
+        atime: moment,
+        ctime: moment,
+        mode: TOP_MODE,
+        ext_mode: 0,
+        status: DIRECTORY_STATUS,
+    }
 }
 
 /// Fills a leaf of the Inode tree: inode 1 stands in the first, all others are 0.
@@ -122,20 +133,19 @@ fn fill_inode_leaf(geometry: &Geometry, order: Order, moment: u32, leaf: u32, in
     into.fill(0);
     if leaf == 0 {
         let top = 2 * geometry.half;
-        fill_top_inode(order, geometry.blocksize, top, moment, &mut into[0..128]);
+        let inode = directory_inode(geometry.blocksize, top, moment);
+        write_inode(&inode, order, &mut into[0..128]);
     }
 }
 
-/// Fills the root directory's block with its rows `.` and `..`.
+/// Fills the root directory's block with its rows `.` and `..`. The other records are unused, which is 0.
 fn fill_top_directory(order: Order, into: &mut [u8])
     requires { 64 ≤ length into.old }
     ensures { into.new ≡ top_directory_bytes order (length into.old) }
 {
     into.fill(0);
-    put32(order, into, 0, 1);
-    into[4..6].copy_from_slice(&[1, b'.']);
-    put32(order, into, 32, 1);
-    into[36..39].copy_from_slice(&[2, b'.', b'.']);
+    write_short(&mut into[0..32], order, 1, b".");
+    write_short(&mut into[32..64], order, 1, b"..");
 }
 
 /// The first block of an area's half.

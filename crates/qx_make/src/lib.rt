@@ -1,6 +1,6 @@
 //! The maker: an empty volume on a device, whatever the device held before.
 //!
-//! Stands on `qx_super` for superblocks and `qx_geom` for the layout, and on `qx_view` and `qx_model` for what its contract says; `qx_top` stands on it.
+//! Stands on `qx_super` for superblocks, `qx_records` for the root directory's inode and rows, and `qx_geom` for the layout, and on `qx_view` and `qx_model` for what its contract says; `qx_top` stands on it.
 //! Its contract: after `make` the device has the bytes of `specs/Make.antt`, a sound volume with the empty tree; and wherever the power is cut an image gives no volume, the old one or the new one, as `specs/Cut.antt` says.
 //! It keeps no state, takes no memory, and reads nothing of the old device but its superblocks.
 #![tactic(auto)]

@@ -4,12 +4,14 @@ use Rattle.qx_fields.specs.declared.order.Order.TheVariants.{Little}
 use Rattle.qx_geom.specs.Layout.{geometry_of, levels_for, numbers_of, pointer_blocks, system_root_of, tree_blocks}
 use Rattle.qx_model.specs.EmptyTree.{empty_tree}
 use Rattle.qx_view.specs.Examples.{made_block}
-use Rattle.qx_make.specs.Blocks.{bitmap_byte, bitmap_leaf_bytes, inode_leaf_bytes, made_block_bytes, pointer_block_bytes, top_block, top_directory_bytes, top_inode_bytes}
+use Rattle.qx_records.specs.WrittenInode.{inode_bytes}
+use Rattle.qx_records.specs.WrittenNames.{short_bytes}
+use Rattle.qx_make.specs.Blocks.{bitmap_byte, bitmap_leaf_bytes, inode_leaf_bytes, made_block_bytes, pointer_block_bytes, top_block, top_directory_bytes}
 use Rattle.qx_make.proofs.laws.the_volume_by_hand_is_a_new_one.Goals as goal
 
 -- the blocks of both halves, and the root directory's
 made_bytes : (b : ℕ) → b ≤ 10 → made_block b ≡ made_block_bytes (numbers_of 65536 512 16) Little 0 b
-unfolding levels_for pointer_blocks tree_blocks bitmap_byte bitmap_leaf_bytes inode_leaf_bytes made_block_bytes pointer_block_bytes top_directory_bytes top_inode_bytes
+unfolding levels_for pointer_blocks tree_blocks bitmap_byte bitmap_leaf_bytes inode_leaf_bytes made_block_bytes pointer_block_bytes top_directory_bytes inode_bytes short_bytes
 made_bytes zero low = refl
 made_bytes (suc zero) low = refl
 made_bytes (suc (suc zero)) low = refl
