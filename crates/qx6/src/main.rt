@@ -18,7 +18,7 @@ fn main(rt: HostRuntime) -> ExitCode {
     let mut host = RealHost::new(rt);
     let status = match words(&rt) {
         Ok(words) => {
-            let Ended { status, host: _ } = run(&words, host);
+            let Ended { status, host: _ } = run(rt.alloc(), &words, host);
             status
         }
         Err(error) if error.kind() == io::ErrorKind::OutOfMemory => {

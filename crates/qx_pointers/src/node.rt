@@ -1,7 +1,7 @@
 //! The pointers of a node, followed depth first.
-ghost use Rattle.std.specs.Prelude.{◌≡◌, ◌<◌, ◌≤◌, ◌+◌, ◌*◌, ◌^◌, ◌||◌, [], true, All, IfOk, IfSome, OnOk, if◌then◌else◌};
+ghost use Rattle.std.specs.Prelude.{◌≡◌, ◌<◌, ◌≤◌, ◌+◌, ◌*◌, ◌^◌, ◌||◌, [], true, All, IfOk, IfSome, IsTrue, OnOk, if◌then◌else◌};
 ghost use Rattle.qx_blockset.specs.Members.{limit_of};
-ghost use Rattle.qx_geom.specs.Pointer.{per_block};
+ghost use Rattle.qx_geom.specs.Pointer.{ceil_div, per_block, reach};
 ghost use Rattle.qx_nodes.specs.BlockMap.{BlockMap};
 ghost use Rattle.qx_nodes.specs.Content.{levels_fit, root_fits};
 ghost use Rattle.qx_nodes.specs.Visits.{visits_of};
@@ -94,6 +94,8 @@ impl Visitor {
         ensures fits { (m : BlockMap) → m.size ≡ self.now.shape.blocksize → m.count ≡ self.now.shape.count
             → result ≡ (if self.now.bounded then root_fits m node.now else levels_fit m node.now) }
         ensures levels { result ≡ true → node.now.levels ≤ 5 }
+        ensures reached { result ≡ true → ceil_div node.now.size self.now.shape.blocksize ≤ 16 * per_block self.now.shape.blocksize ^ node.now.levels }
+        ensures bounded { result ≡ true → IsTrue self.now.bounded → node.now.size ≤ self.now.shape.count * self.now.shape.blocksize }
     {
         let blocksize = u64::from(self.shape.blocksize);
         node.levels <= 5
@@ -121,6 +123,8 @@ pub fn walk_node<D: Dev>(
         → OnOk result (leaves.new.items ≡ kept_leaves visitor.now.keeps (visits_of m node.now)) }
 
     // Whether the device tells or not.
+    ensures bounds { OnOk result (ceil_div node.now.size visitor.now.shape.blocksize ≤ reach visitor.now.shape.blocksize 5) }
+    ensures bounded { OnOk result (IsTrue visitor.now.bounded → node.now.size ≤ visitor.now.shape.count * visitor.now.shape.blocksize) }
     ensures placed { OnOk result (All (IsPlaced visitor.now.shape node.now) leaves.new.items) }
     ensures end { IfOk result (λ part. IfSome part.end (λ block. block < visitor.now.shape.count)) }
     ensures limit { limit_of met.new ≡ limit_of met.old }

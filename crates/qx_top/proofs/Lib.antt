@@ -1,5 +1,6 @@
 pub mod Readings
 pub mod MakerRuns
 pub mod SizeWords
+pub mod VerdictRuns
 pub mod VolumeEnds
 pub mod Words

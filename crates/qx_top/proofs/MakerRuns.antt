@@ -22,8 +22,8 @@ use Rattle.qx_super.specs.Active.{active_area}
 use Rattle.qx_make.specs.Cut.{IsLeftByMaker, nothing, old_volume, IsReadyToMake, LeavesByMaker}
 use Rattle.qx_make.specs.Make.{HasMade, KeepsQuiet, MakesAtEachMoment, geometry_for, made_of, moments_told, tree_for}
 use Rattle.qx_make.specs.Stages.{AsksOneLength}
-use Rattle.qx_top.specs.Lines.{made_line}
-use Rattle.qx_top.specs.Run.{Says, device_fault}
+use Rattle.qx_top.specs.Lines.{device_fault, made_line}
+use Rattle.qx_top.specs.Run.{Says}
 use Rattle.qx_top.specs.Sizes.{options_of}
 use Rattle.qx_top.specs.Volumes.{AddsPartOf, MakesAt, created}
 

@@ -1,11 +1,10 @@
 -- The report by what was read of both areas.
-use Rattle.std.proofs.Common.{◌≡◌, ℕ, List, length, Option, Some, None, IfSome, ap, ◌∙◌, if◌then◌else◌}
-use Rattle.std.specs.Prelude.{◌||◌, codes}
+use Rattle.std.proofs.Common.{◌≡◌, ℕ, List, length, Option, Some, None, IfSome, ap, ◌∙◌}
 use Rattle.qx_outside.specs.Causes.{StaysWhereTold}
 use Rattle.qx_super.specs.Superblock.{Superblock}
-use Rattle.qx_super.specs.Active.{AreRead, first_area, first_super, second_super, active_area, active_super, buffer_of, second_read, pick_of, super_of_pick}
+use Rattle.qx_super.specs.Active.{AreRead, first_super, active_area, active_super, second_read, pick_of, super_of_pick}
 use Rattle.qx_super.proofs.ActiveAreas.{first_read-is, second_read-is}
-use Rattle.qx_top.specs.Lines.{Report, begins_big, refused, report_of, report_read, supers_report}
+use Rattle.qx_top.specs.Lines.{Report, report_of, report_read, supers_report}
 
 -- the report on two superblocks
 report_by : Option Superblock → Option Superblock → Report
@@ -16,10 +15,8 @@ pub report_read-is : (img first second : List ℕ) (len : ℕ) → len ≡ lengt
 unfolding report_read supers_report active_area active_super report_by
 report_read-is img first second len long read =
     ap (λ (n : ℕ). report_read first second n) long
-    ∙ ap (λ (r : Report). if begins_big first || begins_big second then refused (codes "big order\n") else r)
-    (ap (λ (a : Option Superblock). report_by a (second_read first second (length img))) (first_read-is img first second read) ∙ ap (λ (b : Option Superblock). report_by (first_super img) b) (second_read-is img first second read))
-    ∙ ap (λ (bytes : List ℕ). if begins_big bytes || begins_big second then refused (codes "big order\n") else report_by (first_super img) (second_super img)) read.first_bytes
-    ∙ ap (λ (bytes : List ℕ). if begins_big (buffer_of (first_area img)) || begins_big bytes then refused (codes "big order\n") else report_by (first_super img) (second_super img)) read.second_bytes
+    ∙ ap (λ (a : Option Superblock). report_by a (second_read first second (length img))) (first_read-is img first second read)
+    ∙ ap (λ (b : Option Superblock). report_by (first_super img) b) (second_read-is img first second read)
 
 -- a length that was answered, and stays, is the device's
 pub len_was : (before now : Option ℕ) (n len : ℕ) → StaysWhereTold before now → now ≡ Some n → IfSome before (λ m. len ≡ m) → len ≡ n

@@ -21,6 +21,13 @@ pub refused_by_usage : (words : List (List ℕ)) (line : List ℕ) → AsksForNo
 refused_by_usage words line nothing (by_words n is) = is
 refused_by_usage words line nothing (by_numbers image size fault asks why is) = absurd (nothing.no_volume image size asks)
 
+-- the texts of two words
+pub two_texts : {Z : Type 0} (words : List (String Z)) (a b : String Z) → 2 ≤ length words → length words < 3 → a ≡ get_or words 0 a → b ≡ get_or words 1 b → texts_of words ≡ string_bytes a ∷ string_bytes b ∷ []
+two_texts [] a b least most first second = absurd (omega arith)
+two_texts (x ∷ []) a b least most first second = absurd (omega arith)
+two_texts (x ∷ y ∷ []) a b least most first second = rw (first, second) refl
+two_texts (x ∷ y ∷ z ∷ more) a b least most first second = absurd (omega arith)
+
 -- the texts of three words
 pub three_texts : {Z : Type 0} (words : List (String Z)) (a b c : String Z) → 3 ≤ length words → length words < 4 → a ≡ get_or words 0 a → b ≡ get_or words 1 b → c ≡ get_or words 2 c → texts_of words ≡ string_bytes a ∷ string_bytes b ∷ string_bytes c ∷ []
 three_texts [] a b c least most first second third = absurd (omega arith)

@@ -1,3 +1,5 @@
+pub use Rattle.qx_check.specs.Verdicts
+pub use Rattle.qx_view.specs.Sound
 pub use Rattle.qx_super.specs.Superblock
 pub use Rattle.qx_super.specs.Active
 pub use Rattle.qx_outside.specs.Trail

@@ -5,7 +5,7 @@ use Rattle.qx_outside.specs.Causes.{Rose}
 use Rattle.qx_outside.specs.Trail.{History, gave, after, bytes_of}
 use Rattle.qx_top.specs.declared.status.Status.{Status}
 use Rattle.qx_top.specs.declared.status.Status.TheVariants.{Done, BadWords, BadImage, DeviceFault, ConsoleFault, NoMemory}
-use Rattle.qx_top.specs.Lines.{fault_line, supers_report}
+use Rattle.qx_top.specs.Lines.{check_report, device_fault, fault_line, out_of_memory, supers_report}
 use Rattle.qx_top.specs.Sizes.{size_of, volume_of}
 
 -- the exit status
@@ -21,10 +21,6 @@ code_of NoMemory = 5
 abbrev pub usage : List ℕ
 usage = codes "usage: mkqnx6fs [-b BLOCKSIZE] [-i INODES] [-e ORDER] IMAGE SIZE; chkqnx6fs [-s] IMAGE; shell [-r] [-g N] IMAGE\n"
 
--- the line for a device call that failed
-abbrev pub device_fault : List ℕ
-device_fault = codes "device fault\n"
-
 -- the words as bytes
 abbrev pub texts_of : {Z : Type 0} → List (String Z) → List (List ℕ)
 texts_of words = map string_bytes words
@@ -32,6 +28,14 @@ texts_of words = map string_bytes words
 -- the words ask for a line about the superblocks of this image
 abbrev pub AsksForSupers : List (List ℕ) → List ℕ → Type 0
 AsksForSupers words image = words ≡ codes "chkqnx6fs" ∷ codes "-s" ∷ image ∷ []
+
+-- the words ask for the verdict on this image
+abbrev pub AsksForVerdict : List (List ℕ) → List ℕ → Type 0
+AsksForVerdict words image = words ≡ codes "chkqnx6fs" ∷ image ∷ []
+
+-- the words ask for one of the two, for which the image is read alone
+abbrev pub AsksToRead : List (List ℕ) → List ℕ → Type 0
+AsksToRead words image = AsksForSupers words image ⊎ AsksForVerdict words image
 
 -- the words ask for a volume of so many bytes on this image
 pub record AsksForVolume (words : List (List ℕ)) (image : List ℕ) (size : ℕ) : Type 0 where
@@ -42,6 +46,7 @@ pub record AsksForVolume (words : List (List ℕ)) (image : List ℕ) (size : �
 -- the words ask for nothing that is known
 pub record AsksForNothing (words : List (List ℕ)) : Type 0 where
   pub no_supers : (image : List ℕ) → AsksForSupers words image → ⊥
+  pub no_verdict : (image : List ℕ) → AsksForVerdict words image → ⊥
   pub no_volume : (image : List ℕ) (size : ℕ) → AsksForVolume words image size → ⊥
 
 -- the words aren't accepted, or their numbers are those of no volume, and this line says so
@@ -68,3 +73,14 @@ pub record ReportsSupers {H : Type 0} (tells : H → Bool) (history : H → Hist
   pub fault : status ≡ 3 → IsTrue (tells new) → history new ≡ after (gave device_fault) (history old)
   pub cut : status ≡ 4 → IsTrue (tells new)
       → GivesPartOf (supers_report (bytes_of (history old))).text (history old) (history new) ⊎ (Rose (dev_faults old) (dev_faults new) × GivesPartOf device_fault (history old) (history new))
+
+-- the run gives the report on the verdict on the device's bytes and nothing else, or at status 3 that a device call failed, or at 5 that there was no memory
+pub record ReportsVerdict {H : Type 0} (tells : H → Bool) (history : H → History) (dev_faults : H → ℕ) (status : ℕ) (old new : H) : Type 0 where
+  pub before : IsTrue (tells new) → IsTrue (tells old)
+  pub report : status ≢ 3 → status ≢ 4 → status ≢ 5 → IsTrue (tells new)
+      → (history new ≡ after (gave (check_report (bytes_of (history old))).text) (history old)) × (status ≡ code_of (check_report (bytes_of (history old))).status)
+  pub fault : status ≡ 3 → IsTrue (tells new) → history new ≡ after (gave device_fault) (history old)
+  pub memory : status ≡ 5 → IsTrue (tells new) → history new ≡ after (gave out_of_memory) (history old)
+  pub cut : status ≡ 4 → IsTrue (tells new)
+      → GivesPartOf (check_report (bytes_of (history old))).text (history old) (history new)
+      ⊎ ((Rose (dev_faults old) (dev_faults new) × GivesPartOf device_fault (history old) (history new)) ⊎ GivesPartOf out_of_memory (history old) (history new))

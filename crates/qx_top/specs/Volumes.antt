@@ -9,8 +9,7 @@ use Rattle.qx_outside.specs.Trail.{History, bytes_of, input, output}
 use Rattle.qx_make.specs.Cut.{IsReadyToMake, LeavesByMaker}
 use Rattle.qx_make.specs.Make.{HasMade, made_of, moments_told, tree_for}
 use Rattle.qx_make.specs.Stages.{AsksOneLength}
-use Rattle.qx_top.specs.Lines.{made_line}
-use Rattle.qx_top.specs.Run.{device_fault}
+use Rattle.qx_top.specs.Lines.{device_fault, made_line}
 use Rattle.qx_top.specs.Sizes.{options_of}
 
 -- the image is attached, and made where it is missing

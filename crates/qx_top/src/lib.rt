@@ -1,13 +1,15 @@
 //! The top call: what the words ask for, done over any host, up to the exit status.
 //!
-//! Stands on `qx_make`, `qx_super` and `qx_outside`; the program `qx6` calls it with the real host.
+//! Stands on `qx_check`, `qx_make`, `qx_super` and `qx_outside`; the program `qx6` calls it with the real host.
 //! Its contract: `run` does what `specs/Run.antt` and `specs/Volumes.antt` say of the words, gives exactly the text that they say, and a status with its cause.
-//! It keeps no state between calls, and takes no memory.
+//! It keeps no state between calls, and takes memory in the checker alone.
 //! It never writes to the device but through `qx_make`.
 #![tactic(auto)]
 
+mod checker;
 mod lines;
 mod maker;
+mod reports;
 mod sizes;
 mod status;
 mod supers;

@@ -1,7 +1,7 @@
 //! Lines of text in place, without memory.
 ghost use Rattle.std.specs.Prelude.{◌≡◌, ◌+◌, ◌≤◌, ◌++◌, length, codes, decimal};
 ghost use Rattle.arrayvec.specs.ArrayString.{array_string_len};
-ghost use Rattle.qx_top.specs.Lines.{area_line, fault_line, made_line, order_word};
+ghost use Rattle.qx_top.specs.Lines.{area_line, clean_line, damaged_line, fault_line, foreign_line, made_line, order_word};
 
 use arrayvec::ArrayString;
 use itoa::Buffer;
@@ -10,7 +10,7 @@ use qx_geom::{GeomFault, Which};
 use qx_make::Made;
 use qx_super::SuperView;
 
-/// Room for the line about an area: 54 bytes of words, and five numbers that count as 20 digits each.
+/// Room for the longest line, that about an area: 54 bytes of words, and five numbers that count as 20 digits each.
 pub type Line = ArrayString<160>;
 
 fn push_number(line: &mut Line, n: u64)
@@ -50,6 +50,54 @@ pub fn line_of_area(which: Which, view: &SuperView<'_>) -> Line
     push_number(&mut line, u64::from(view.num_inodes()));
     line.push_str(" order ");
     line.push_str(order_text(view.order()));
+    line.push_str("\n");
+    line
+}
+
+/// The line about a clean image: its active area, that area's serial, and how many blocks and inodes are free.
+#[tactic(auto, unfolding(crate::specs::Lines::clean_line))]
+pub fn line_of_clean(which: Which, serial: u64, free_blocks: u32, free_inodes: u32) -> Line
+    ensures { result.bytes ≡ clean_line which serial free_blocks free_inodes }
+{
+    let mut line = Line::new();
+    line.push_str("clean area ");
+    push_number(&mut line, u64::from(which.number()));
+    line.push_str(" serial ");
+    push_number(&mut line, serial);
+    line.push_str(" free blocks ");
+    push_number(&mut line, u64::from(free_blocks));
+    line.push_str(" free inodes ");
+    push_number(&mut line, u64::from(free_inodes));
+    line.push_str("\n");
+    line
+}
+
+/// The line about a foreign image: the reason's number, and the least number to which it applies.
+#[tactic(auto, unfolding(crate::specs::Lines::foreign_line))]
+pub fn line_of_foreign(reason: u8, at: u64) -> Line
+    ensures { result.bytes ≡ foreign_line reason at }
+{
+    let mut line = Line::new();
+    line.push_str("foreign ");
+    push_number(&mut line, u64::from(reason));
+    line.push_str(" at ");
+    push_number(&mut line, at);
+    line.push_str("\n");
+    line
+}
+
+/// The line about a damaged image: the code of the test that fails, the inode under the walk and the block in question.
+#[tactic(auto, unfolding(crate::specs::Lines::damaged_line))]
+pub fn line_of_damaged(code: u8, inode: u32, block: u32) -> Line
+    ensures { result.bytes ≡ damaged_line code inode block }
+{
+    let mut line = Line::new();
+    line.push_str("damaged ");
+    push_number(&mut line, u64::from(code));
+    line.push_str(" inode ");
+    push_number(&mut line, u64::from(inode));
+    line.push_str(" block ");
+    push_number(&mut line, u64::from(block));
     line.push_str("\n");
     line
 }

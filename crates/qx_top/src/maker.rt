@@ -11,8 +11,8 @@ ghost use Rattle.qx_top.specs.Volumes.{MakesVolume};
 
 use crate::Status;
 use crate::lines::{line_of_made, text_of_fault};
+use crate::reports::DEVICE_FAULT;
 use crate::sizes::inodes_for;
-use crate::supers::DEVICE_FAULT;
 use crate::top::say;
 use qx_fields::Order;
 use qx_geom::Geometry;

@@ -9,7 +9,7 @@ pub enum Status {
     Done = 0,
     /// The words aren't accepted.
     BadWords = 1,
-    /// The image has no volume, or its two areas disagree.
+    /// The image has no volume, its two areas disagree, or it is damaged.
     BadImage = 2,
     /// A device call failed.
     DeviceFault = 3,

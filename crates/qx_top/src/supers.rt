@@ -1,47 +1,18 @@
 //! `chkqnx6fs -s IMAGE`: one line about the superblocks of an image.
-ghost use Rattle.std.specs.Prelude.{◌≡◌, ◌≢◌, ◌<◌, ◌≤◌, ◌∷◌, length, IfOk, IsTrue, false};
+ghost use Rattle.std.specs.Prelude.{◌≡◌, ◌≢◌, ◌<◌, ◌∷◌, length, IfOk, IsTrue, false};
 ghost use Rattle.qx_outside.specs.Causes.{Becomes, HasCause, Rose};
 ghost use Rattle.qx_outside.specs.Calls.{Idles, LeavesConsole};
 ghost use Rattle.qx_outside.specs.Trail.{bytes_of};
 ghost use Rattle.qx_super.specs.Active.{pick_of, first_read, second_read};
-ghost use Rattle.qx_top.specs.Lines.{begins_big, report_of, report_read, supers_report};
+ghost use Rattle.qx_top.specs.Lines.{report_of, report_read, supers_report};
 ghost use Rattle.qx_top.specs.Run.{code_of, ReportsSupers};
 
 use crate::Status;
-use crate::lines::{Line, line_of, line_of_area};
+use crate::lines::line_of_area;
+use crate::reports::{DEVICE_FAULT, Report};
 use crate::top::say;
-use qx_fields::{Order, get32};
 use qx_outside::{Dev, Failed, Host};
-use qx_super::{MAGIC, Pick, SuperView, active_view, areas};
-
-/// The line for a device call that failed.
-pub const DEVICE_FAULT: &str = "device fault\n";
-
-/// What is to be said of an image, and how the run then ends.
-#[derive(Drop)]
-pub struct Report {
-    pub line: Line,
-    pub status: Status,
-}
-
-fn is_big(buffer: &[u8]) -> bool
-    requires { length buffer.now ≡ 512 }
-    ensures { result ≡ begins_big buffer.now }
-{
-    get32(Order::Big, buffer, 0) == MAGIC
-}
-
-/// The report on an image that can't be used.
-fn refused(text: &str) -> Report
-    requires { length text.now ≤ 160 }
-    ensures line { result.line.bytes ≡ text.now }
-    ensures status { result.status ≡ Status.BadImage }
-{
-    Report {
-        line: line_of(text),
-        status: Status::BadImage,
-    }
-}
+use qx_super::{Pick, SuperView, active_view, areas};
 
 /// The report on a pick, and on the superblock of the area that was picked.
 fn report_on(pick: Pick, active: Option<SuperView<'_>>) -> Report
@@ -51,12 +22,11 @@ fn report_on(pick: Pick, active: Option<SuperView<'_>>) -> Report
     ensures not_of_words { code_of result.status ≢ 1 }
 {
     match (pick, active) {
-        (Pick::Active(which), Some(view)) => Report {
-            line: line_of_area(which, &view),
-            status: Status::Done,
-        },
-        (Pick::Disagree, _) => refused("disagree\n"),
-        _ => refused("no volume\n"),
+        (Pick::Active(which), Some(view)) => {
+            Report::new(line_of_area(which, &view), Status::Done)
+        }
+        (Pick::Disagree, _) => Report::refused("disagree\n"),
+        _ => Report::refused("no volume\n"),
     }
 }
 
@@ -71,10 +41,6 @@ fn report_on_buffers(pick: Pick, first: &[u8], second: &[u8], len: u64) -> Repor
     ensures of_image { code_of result.status < 3 }
     ensures not_of_words { code_of result.status ≢ 1 }
 {
-    // Numbers in big order are not read yet.
-    if is_big(first) || is_big(second) {
-        return refused("big order\n");
-    }
     report_on(pick, active_view(pick, first, second, len))
 }
 

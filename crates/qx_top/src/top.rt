@@ -1,17 +1,19 @@
 //! The run of a program's words over a host.
-ghost use Rattle.std.specs.Prelude.{◌≡◌, ◌≢◌, ◌<◌, ◌∷◌, [], IfSome, IfNone, IsTrue, List, ℕ, Ok, false};
+ghost use Rattle.std.specs.Prelude.{◌≡◌, ◌≢◌, ◌<◌, ◌∷◌, ◌⊎◌, [], IfSome, IfNone, IsTrue, List, ℕ, Ok, false};
 ghost use Rattle.qx_geom.specs.declared.geometry.Geometry.{Geometry};
 ghost use Rattle.qx_outside.specs.Causes.{Becomes, Rose};
 ghost use Rattle.qx_outside.specs.Calls.{LeavesDevice};
-ghost use Rattle.qx_top.specs.Run.{code_of, texts_of, AsksForSupers, AsksForVolume, IsRefused, Says, ReportsSupers};
+ghost use Rattle.qx_top.specs.Run.{code_of, texts_of, AsksForSupers, AsksForVerdict, AsksForVolume, AsksToRead, IsRefused, Says, ReportsSupers, ReportsVerdict};
 ghost use Rattle.qx_top.specs.Sizes.{volume_of};
 ghost use Rattle.qx_top.specs.Volumes.{HasCreated, MakesVolume};
 
 use crate::Status;
+use crate::checker::report_verdict;
 use crate::maker::make_volume;
 use crate::sizes::size_of_word;
 use crate::supers::report_supers;
 use qx_outside::Host;
+use std::alloc::Global;
 
 /// The line for words that aren't accepted.
 pub const USAGE: &str =
@@ -50,6 +52,17 @@ fn image_of_supers<'a>(words: &'a [String]) -> Option<&'a str>
     }
 }
 
+/// The image on which the words ask for the verdict.
+fn image_of_verdict<'a>(words: &'a [String]) -> Option<&'a str>
+    ensures some { IfSome result (λ image. AsksForVerdict (texts_of words.now) image.now) }
+    ensures none { IfNone result ((image : List ℕ) → AsksForVerdict (texts_of words.now) image → ⊥) }
+{
+    match words {
+        [command, image] if command.as_str() == "chkqnx6fs" => Some(image.as_str()),
+        _ => None,
+    }
+}
+
 /// The image and the size of the volume that the words ask for.
 fn volume_of_words<'a>(words: &'a [String]) -> Option<(&'a str, u64)>
     ensures some { IfSome result (λ asked. AsksForVolume (texts_of words.now) asked.0.now asked.1) }
@@ -65,20 +78,25 @@ fn volume_of_words<'a>(words: &'a [String]) -> Option<(&'a str, u64)>
 }
 
 /// Does what the words say.
-fn obey<H: Host>(words: &[String], host: &mut H) -> Status
+fn obey<H: Host>(alloc: Global, words: &[String], host: &mut H) -> Status
     ensures supers { (image : List ℕ) → AsksForSupers (texts_of words.now) image → ReportsSupers H.tells H.history H.dev_faults (code_of result) host.old host.new }
-    ensures attached { (image : List ℕ) → AsksForSupers (texts_of words.now) image → Becomes (H.attached host.old) (H.attached host.new) (λ old new. new ≡ record { path = image; create = false } ∷ old) }
+    ensures verdict { (image : List ℕ) → AsksForVerdict (texts_of words.now) image → ReportsVerdict H.tells H.history H.dev_faults (code_of result) host.old host.new }
+    ensures attached { (image : List ℕ) → AsksToRead (texts_of words.now) image → Becomes (H.attached host.old) (H.attached host.new) (λ old new. new ≡ record { path = image; create = false } ∷ old) }
     ensures makes { (image : List ℕ) (size : ℕ) (g : Geometry) → AsksForVolume (texts_of words.now) image size → volume_of size ≡ Ok g
         → MakesVolume H.tells H.history H.extent H.attached H.dev_reads H.dev_faults image size g (code_of result) host.old host.new }
     ensures refused { (line : List ℕ) → IsRefused (texts_of words.now) line → Says H.tells H.history line 1 (code_of result) host.old host.new }
     ensures others { (line : List ℕ) → IsRefused (texts_of words.now) line → LeavesDevice H.extent H.attached H.dev_reads H.dev_faults host.old host.new }
-    ensures exits { code_of result < 5 }
+    ensures exits { code_of result < 6 }
     ensures words { code_of result ≡ 1 → (line : List ℕ) × IsRefused (texts_of words.now) line }
     ensures device { code_of result ≡ 3 → Rose (H.dev_faults host.old) (H.dev_faults host.new) }
     ensures console { code_of result ≡ 4 → Rose (H.con_faults host.old) (H.con_faults host.new) }
+    ensures memory { code_of result ≡ 5 → (image : List ℕ) × AsksForVerdict (texts_of words.now) image }
 {
     if let Some(image) = image_of_supers(words) {
         return report_supers(host, image);
+    }
+    if let Some(image) = image_of_verdict(words) {
+        return report_verdict(alloc, host, image);
     }
     if let Some((image, size)) = volume_of_words(words) {
         return make_volume(host, image, size);
@@ -87,15 +105,16 @@ fn obey<H: Host>(words: &[String], host: &mut H) -> Status
 }
 
 /// Does what the words say, and gives its text to the console.
-/// Accepted are `chkqnx6fs -s IMAGE` and `mkqnx6fs IMAGE SIZE`; all other words get the usage line. Words are UTF-8 texts without the program's own name.
-/// Exit status 0: done. 1: the words aren't accepted, or their numbers are those of no volume. 2: no volume, two areas that disagree, or big order. 3: a device call failed. 4: a console or clock call failed.
-pub fn run<H: Host>(words: &[String], host: H) -> Ended<H>
+/// Accepted are `chkqnx6fs IMAGE`, `chkqnx6fs -s IMAGE` and `mkqnx6fs IMAGE SIZE`; all other words get the usage line. Words are UTF-8 texts without the program's own name.
+/// Exit status 0: done; an image that is checked is clean or foreign. 1: the words aren't accepted, or their numbers are those of no volume. 2: no volume, two areas that disagree, or a damaged image. 3: a device call failed. 4: a console or clock call failed. 5: there was no memory for the check.
+pub fn run<H: Host>(alloc: Global, words: &[String], host: H) -> Ended<H>
     requires trail { IsTrue (H.tells host) → (H.history host).deeds ≡ [] }
     requires attached { IfSome (H.attached host) (λ paths. paths ≡ []) }
 
-    // The superblocks are asked for: the image alone is attached, and is never made.
+    // The superblocks or the verdict are asked for: the image alone is attached, and is never made.
     ensures supers { (image : List ℕ) → AsksForSupers (texts_of words.now) image → ReportsSupers H.tells H.history H.dev_faults result.status host result.host }
-    ensures attached { (image : List ℕ) → AsksForSupers (texts_of words.now) image → IfSome (H.attached result.host) (λ paths. paths ≡ record { path = image; create = false } ∷ []) }
+    ensures verdict { (image : List ℕ) → AsksForVerdict (texts_of words.now) image → ReportsVerdict H.tells H.history H.dev_faults result.status host result.host }
+    ensures attached { (image : List ℕ) → AsksToRead (texts_of words.now) image → IfSome (H.attached result.host) (λ paths. paths ≡ record { path = image; create = false } ∷ []) }
 
     // A volume is asked for: the image alone is attached, and is made where it is missing.
     ensures makes { (image : List ℕ) (size : ℕ) (g : Geometry) → AsksForVolume (texts_of words.now) image size → volume_of size ≡ Ok g
@@ -109,15 +128,16 @@ pub fn run<H: Host>(words: &[String], host: H) -> Ended<H>
     ensures refused { (line : List ℕ) → IsRefused (texts_of words.now) line → Says H.tells H.history line 1 result.status host result.host }
     ensures others { (line : List ℕ) → IsRefused (texts_of words.now) line → LeavesDevice H.extent H.attached H.dev_reads H.dev_faults host result.host }
 
-    // Each status has its cause.
-    ensures exits { result.status < 5 }
+    // Each status has its cause. Memory is taken by the check alone.
+    ensures exits { result.status < 6 }
     ensures words { result.status ≡ 1 → (line : List ℕ) × IsRefused (texts_of words.now) line }
     ensures device { result.status ≡ 3 → Rose (H.dev_faults host) (H.dev_faults result.host) }
     ensures console { result.status ≡ 4 → Rose (H.con_faults host) (H.con_faults result.host) }
-    ensures complete { (Rose (H.dev_faults host) (H.dev_faults result.host) → ⊥) → (Rose (H.con_faults host) (H.con_faults result.host) → ⊥) → result.status < 3 }
+    ensures memory { result.status ≡ 5 → (image : List ℕ) × AsksForVerdict (texts_of words.now) image }
+    ensures complete { (Rose (H.dev_faults host) (H.dev_faults result.host) → ⊥) → (Rose (H.con_faults host) (H.con_faults result.host) → ⊥) → (result.status < 3) ⊎ (result.status ≡ 5) }
 {
     let mut host = host;
-    let status = obey(words, &mut host);
+    let status = obey(alloc, words, &mut host);
     Ended {
         status: status.code(),
         host,

@@ -1,4 +1,5 @@
-use Rattle.std.proofs.Common.{rules, ◌≡◌, ◌<◌, length, sym, ◌∙◌, ap, subst, true, arith}
+use Rattle.std.proofs.Math.Nat.{pow-le-pow_right}
+use Rattle.std.proofs.Common.{rules, ◌≡◌, ◌^◌, ◌<◌, ◌≤◌, length, sym, ◌∙◌, ap, subst, true, arith}
 use Rattle.std.specs.Prelude.{Ok, Err, if◌then◌else◌}
 use Rattle.std.proofs.lemmas.Result.{err_from_is_err_and}
 use Rattle.qx_geom.proofs.BlockSizes.{block_size-bounds}
@@ -50,3 +51,10 @@ returns-clause-leaves g c = λ m s.
     let below : c.div_ceil-last.result ≡ leaves_below m node = last ∙ ap (ceil_div node.size) (sym (shown_size shape c.visit_each.new.host m s)) in
     node_kept m c.args.visitor.now node c.div_ceil-last.result below sixteen c.in_ok-whole.whole c.args.met.now c.visit_each.new.met c.visit_each.new.leaves.items
     (subst (λ z. SeesNode m c.args.visitor.now node c.div_ceil-last.result below sixteen (Ok c.in_ok-whole.whole) c.args.met.now c.visit_each.new.met z c.visit_each.new.leaves.items) c.requires.leaves (c.in_ok-whole.ensures.sees m s))
+
+pub returns-clause-bounds : goal.returns-clause-bounds
+returns-clause-bounds g c =
+    let shape = c.args.visitor.now.shape in
+    let bounds = block_size-bounds shape.blocksize shape.sized in
+    let power : per_block shape.blocksize ^ c.args.node.now.levels ≤ per_block shape.blocksize ^ 5 = pow-le-pow_right (omega (arith, bounds.pointers_from)) (c.fits.ensures.levels c.if-not-fits.false) in
+    omega (arith, c.fits.ensures.reached c.if-not-fits.false, power)

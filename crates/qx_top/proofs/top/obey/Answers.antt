@@ -18,7 +18,7 @@ returns-in-Some-volume_of_words-clause-words g c = λ one.
 
 -- the words are those of no command
 nothing : (g : Over) (c : goal.After-say g) → AsksForNothing (texts_of c.args.words.now)
-nothing g c = record { no_supers = c.in_default.ensures.none; no_volume = c.in_default-volume_of_words.ensures.none }
+nothing g c = record { no_supers = c.in_default.ensures.none; no_verdict = c.in_default-image_of_verdict.ensures.none; no_volume = c.in_default-volume_of_words.ensures.none }
 
 pub returns-clause-makes : goal.returns-clause-makes
 returns-clause-makes g c = λ image size vol asks is. absurd ((nothing g c).no_volume image size asks)

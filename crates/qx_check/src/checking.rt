@@ -1,0 +1,47 @@
+//! The check of an image.
+ghost use Rattle.std.specs.Prelude.{◌≡◌, ◌≤◌, Err, IsTrue};
+ghost use Rattle.qx_outside.specs.Causes.{Rose};
+ghost use Rattle.qx_outside.specs.Trail.{bytes_of};
+ghost use Rattle.qx_pointers.specs.Shown.{JustReads};
+ghost use Rattle.qx_check.specs.declared.verdict.CheckFault.TheVariants as faults;
+ghost use Rattle.qx_check.specs.Verdicts.{SaysVerdict};
+
+use crate::{CheckFault, Verdict};
+use qx_outside::Dev;
+use qx_walk::{WalkFault, walk};
+use std::alloc::Global;
+
+/// Says whether a device holds a volume that is right: the verdict that the definitions give on its bytes.
+pub fn check<D: Dev>(alloc: Global, host: &mut D) -> Result<Verdict, CheckFault>
+    ensures says { IsTrue (D.tells host.new) → SaysVerdict (bytes_of (D.history host.old)) result }
+    ensures reads { JustReads D.tells D.history D.attached D.con_faults host.old host.new }
+    ensures later { D.dev_faults host.old ≤ D.dev_faults host.new }
+    ensures device { result ≡ Err faults.Device → Rose (D.dev_faults host.old) (D.dev_faults host.new) }
+{
+    let Ok(len) = host.len() else {
+        return Err(CheckFault::Device);
+    };
+    match walk(alloc, host, len) {
+        Err(WalkFault::NoVolume) => Err(CheckFault::NoVolume),
+        Err(WalkFault::Disagree) => Err(CheckFault::Disagree),
+        Err(WalkFault::Device) => Err(CheckFault::Device),
+        Err(WalkFault::NoMemory) => Err(CheckFault::NoMemory),
+        Err(WalkFault::Finding { code, inode, block }) => Ok(Verdict::Damaged {
+            code,
+            inode,
+            block,
+        }),
+        Ok(survey) => match survey.foreign {
+            Some(foreign) => Ok(Verdict::Foreign {
+                reason: foreign.reason,
+                at: foreign.at,
+            }),
+            None => Ok(Verdict::Clean {
+                which: survey.which,
+                serial: survey.serial,
+                free_blocks: survey.free_blocks,
+                free_inodes: survey.num_inodes.saturating_sub(survey.live),
+            }),
+        },
+    }
+}

@@ -1,0 +1,191 @@
+//! Whole runs of the checker over a host in memory.
+
+use super::small::small_image;
+use super::{changed, ran, ran_in_room};
+use qx_fields::Order;
+use qx_make::{MakeOptions, make};
+use qx_outside::{Dev, Event, MemHost};
+use std::alloc::Global;
+use std::test::Fail;
+
+const CHECK: [&str; 2] = ["chkqnx6fs", "x"];
+
+const CLEAN: &str = "clean area 2 serial 2 free blocks 85 free inodes 15\n";
+
+/// The bytes with others at some places.
+fn with_bytes(mut device: Vec<u8>, changes: &[(usize, &[u8])]) -> Vec<u8> {
+    for (at, bytes) in changes {
+        for (there, byte) in device.iter_mut().skip(*at).zip(bytes.iter()) {
+            *there = *byte;
+        }
+    }
+    device
+}
+
+#[test]
+fn a_volume_that_was_made_is_clean(rt: HostRuntime) -> Result<(), Fail> {
+    let alloc = rt.alloc();
+    let of_16m = "clean area 2 serial 2 free blocks 30655 free inodes 4095\n";
+    let cases = [
+        ("65536", CLEAN),
+        ("65537", CLEAN),
+        (
+            "32K",
+            "clean area 2 serial 2 free blocks 21 free inodes 15\n",
+        ),
+        ("16M", of_16m),
+    ];
+    for (size, line) in cases {
+        let (made, host) = ran(alloc, &["mkqnx6fs", "x", size], Vec::new(alloc), &[])?;
+        assert_eq!(rt; made, 0, "{size}");
+        let bytes = host.bytes().to_vec(alloc)?;
+        let (ended, host) = ran(alloc, &CHECK, bytes, &[])?;
+        assert_eq!(rt; host.output()?.as_slice(), line.as_bytes(), "{size}");
+        assert_eq!(rt; ended, 0, "{size}");
+        assert!(rt; matches!(host.trail(), [Event::Gave(_)]), "{size}");
+    }
+    Ok(())
+}
+
+#[test]
+fn each_change_has_its_line(rt: HostRuntime) -> Result<(), Fail> {
+    let alloc = rt.alloc();
+    let area_1 = "clean area 1 serial 1 free blocks 85 free inodes 15\n";
+    let no_inode = "damaged 1 inode 1 block 4294967295\n";
+    // A directory in the upper half's second inode, and two rows that name it.
+    let twice: [(usize, &[u8]); 3] = [
+        (0x3CA0, &[0xED, 0x41]),
+        (0x4440, &[2, 0, 0, 0, 1, b'd']),
+        (0x4460, &[2, 0, 0, 0, 1, b'e']),
+    ];
+    let cases: [(&str, &[(usize, &[u8])], &str, u8); 8] = [
+        ("nothing", &[], CLEAN, 0),
+        ("the first superblock", &[(0x2010, &[0])], CLEAN, 0),
+        ("the second superblock", &[(0xF010, &[0])], area_1, 0),
+        ("both", &[(0x2010, &[0]), (0xF010, &[0])], "no volume\n", 2),
+        (
+            "a bit of the bitmap",
+            &[(0x3A01, &[0xE0])],
+            "foreign 3 at 8\n",
+            0,
+        ),
+        (
+            "a block of the lower half",
+            &[(0x3C24, &[2])],
+            "foreign 2 at 0\n",
+            0,
+        ),
+        (
+            "a record's length",
+            &[(0x4404, &[28])],
+            "damaged 7 inode 1 block 10\n",
+            2,
+        ),
+        ("levels", &[(0x3C64, &[6])], no_inode, 2),
+    ];
+    for (name, changes, line, status) in cases {
+        let device = with_bytes(small_image(alloc)?, changes);
+        let (ended, host) = ran(alloc, &CHECK, device, &[])?;
+        assert_eq!(rt; host.output()?.as_slice(), line.as_bytes(), "{name}");
+        assert_eq!(rt; ended, status, "{name}");
+        assert!(rt; matches!(host.trail(), [Event::Gave(_)]), "{name}");
+    }
+    let (ended, host) = ran(alloc, &CHECK, with_bytes(small_image(alloc)?, &twice), &[])?;
+    let line = "damaged 13 inode 1 block 10\n";
+    assert_eq!(rt; host.output()?.as_slice(), line.as_bytes());
+    assert_eq!(rt; ended, 2);
+    Ok(())
+}
+
+#[test]
+fn a_pointer_block_of_the_other_half_counts(rt: HostRuntime) -> Result<(), Fail> {
+    let alloc = rt.alloc();
+    let (_, host) = ran(alloc, &["mkqnx6fs", "x", "16M"], Vec::new(alloc), &[])?;
+    // Block 1032 is the first inode pointer block of the first half, and the second half is active.
+    let device = changed(host.bytes().to_vec(alloc)?, &[0x3000 + 1032 * 512]);
+    let (ended, host) = ran(alloc, &CHECK, device, &[])?;
+    assert_eq!(rt; host.output()?.as_slice(), b"foreign 2 at 0\n".as_slice());
+    assert_eq!(rt; ended, 0);
+    Ok(())
+}
+
+#[test]
+fn big_order_and_blocks_of_4096_bytes_are_read(rt: HostRuntime) -> Result<(), Fail> {
+    let alloc = rt.alloc();
+    let options = MakeOptions {
+        size: 1 << 20,
+        blocksize: 4096,
+        inodes: 256,
+        order: Order::Big,
+        moment: 1000,
+    };
+    let none = Vec::new(alloc);
+    let mut host = MemHost::new(
+        alloc,
+        none,
+        Vec::new(alloc),
+        Vec::new(alloc),
+        Vec::new(alloc),
+        100,
+    )?;
+    let Ok(made) = make(&mut host, &options) else {
+        return Err(Fail::new("a volume of 1 MiB is made"));
+    };
+    assert_eq!(rt;
+        (made.blocks, made.user, made.free, made.inodes),
+        (252, 234, 233, 256)
+    );
+    let bytes = host.bytes();
+    let magic = [0x68, 0x19, 0x11, 0x22];
+    assert_eq!(rt; bytes.get(0x2000..0x2004), Some(magic.as_slice()));
+    assert_eq!(rt; bytes.get(1_044_480..1_044_484), Some(magic.as_slice()));
+    let cases: [(&[&str], &str); 2] = [
+        (
+            &CHECK,
+            "clean area 2 serial 2 free blocks 233 free inodes 255\n",
+        ),
+        (
+            &["chkqnx6fs", "-s", "x"],
+            "area 2 serial 2 blocksize 4096 blocks 252 inodes 256 order big\n",
+        ),
+    ];
+    for (words, line) in cases {
+        let (ended, host) = ran(alloc, words, bytes.to_vec(alloc)?, &[])?;
+        assert_eq!(rt; host.output()?.as_slice(), line.as_bytes(), "{line}");
+        assert_eq!(rt; ended, 0, "{line}");
+    }
+    Ok(())
+}
+
+#[test]
+fn each_device_call_that_fails_is_a_device_fault(rt: HostRuntime) -> Result<(), Fail> {
+    let alloc = rt.alloc();
+    let mut last = 0;
+    for number in 0..100u64 {
+        let (ended, host) = ran(alloc, &CHECK, small_image(alloc)?, &[number])?;
+        let output = host.output()?;
+        assert!(rt; host.bytes() == small_image(alloc)?.as_slice(), "{number}");
+        if ended == 4 {
+            // The line was the last call, and half of it was given.
+            assert_eq!(rt; output.as_slice(), b"clean area 2 serial 2 free".as_slice());
+            break;
+        }
+        assert_eq!(rt; ended, 3, "{number}");
+        assert_eq!(rt; output.as_slice(), b"device fault\n".as_slice(), "{number}");
+        last = number;
+    }
+    // The attach, the length, both areas, and the blocks that are read.
+    assert!(rt; last >= 9 && last < 99, "{last}");
+    let (ended, host) = ran_in_room(alloc, &CHECK, small_image(alloc)?, &[], 0)?;
+    assert_eq!(rt; (ended, host.events()), (4, 0));
+    Ok(())
+}
+
+#[test]
+fn a_word_that_begins_with_a_line_is_an_image(rt: HostRuntime) -> Result<(), Fail> {
+    let alloc = rt.alloc();
+    let (ended, host) = ran(alloc, &["chkqnx6fs", "-s"], small_image(alloc)?, &[])?;
+    assert_eq!(rt; host.output()?.as_slice(), CLEAN.as_bytes());
+    assert_eq!(rt; ended, 0);
+    Ok(())
+}

@@ -1,0 +1,25 @@
+use Rattle.std.proofs.Common.{◌≡◌, ◌≤◌, ◌-◌}
+use Rattle.qx_blockset.specs.Members.{limit_of}
+use Rattle.qx_nodes.specs.BlockMap.{BlockMap}
+use Rattle.qx_view.specs.Images.{Roots}
+use Rattle.qx_walk.proofs.AllInodes.{IsOnWay}
+use Rattle.qx_walk.specs.Inodes.{Begins}
+use Rattle.qx_pointers.specs.Shown.{Fits, JustReads, Shows}
+use Rattle.qx_walk.specs.Tables.{AreInside, HoldsInodes, IsListing, places_of}
+use Rattle.qx_walk.proofs.inodes.walk_inodes.Given as goal
+
+-- the inodes that were taken so far were walked
+abbrev pub invariant-loop-queued : goal.invariant-loop-queued
+invariant-loop-queued g l = record {
+  way : (m : BlockMap) (r : Roots) → Shows g.D.Dev.tells g.D.Dev.history l.ground.shape l.host m → HoldsInodes m r.inodes l.ground.table → Begins m r l.fn.way l.fn.seen → IsOnWay m r l.way l.seen;
+  limit : limit_of l.way.met ≡ limit_of l.fn.way.met;
+  inside : AreInside l.ground.shape.count l.seen.longs;
+  listing : IsListing (places_of l.ground.table) l.seen.listing;
+  fits : Fits g.D.Dev.extent l.ground.shape l.host;
+  reads : JustReads g.D.Dev.tells g.D.Dev.history g.D.Dev.attached g.D.Dev.con_faults l.fn.host l.host;
+  faults : g.D.Dev.dev_faults l.fn.host ≤ g.D.Dev.dev_faults l.host;
+}
+
+-- the places less the inodes that were taken
+abbrev pub decreases-loop-queued : goal.decreases-loop-queued
+decreases-loop-queued g l = places_of l.ground.table - l.seen.listing.next

@@ -1,0 +1,59 @@
+use Rattle.std.proofs.Common.{◌≡◌, List, [], ◌∷◌, length, refl, sym, ◌∙◌, ap, subst, Some, None, IsTrue}
+use Rattle.std.specs.Prelude.{IfSome}
+use Rattle.std.specs.Option.{option_map}
+use Rattle.qx_nodes.specs.BlockMap.{BlockMap}
+use Rattle.qx_outside.specs.Trail.{bytes_of}
+use Rattle.qx_pointers.specs.Halts.{HaltsAt}
+use Rattle.qx_pointers.specs.Shown.{JustReads, Shows}
+use Rattle.qx_pointers.proofs.ShownBlocks.{reads_then, shows_before}
+use Rattle.qx_super.specs.Superblock.{Superblock}
+use Rattle.qx_view.specs.Images.{Roots, image_blocks, main_roots}
+use Rattle.qx_view.specs.Sound.{last_with, reason_with, written_geometry}
+use Rattle.qx_view.specs.Walk.{finding_of}
+use Rattle.qx_walk.specs.Layouts.{IsLast, reason_in}
+use Rattle.qx_walk.specs.Surveys.{IsFault, IsSurvey}
+use Rattle.qx_walk.specs.Trees.{IsWalked}
+use Rattle.qx_walk.proofs.Surveyed.{halted, halted_last, no_reason, shown_blocks, surveyed}
+use Rattle.qx_walk.proofs.surveying.survey.Goals as goal
+
+pub returns-in-Err-clause-says : goal.returns-in-Err-clause-says
+returns-in-Err-clause-says g c = λ img told bytes active names.
+    let s : Superblock = c.args.view.now in
+    let m : BlockMap = image_blocks img s in
+    let roots : ◌≡◌ {A = Roots} (record { inodes = c.root.result; longfile = c.root-2.result; further = c.root-3.result ∷ [] }) (main_roots s) = λ i. record { inodes = c.root.ensures i; longfile = c.root-2.ensures i; further = c.root-3.ensures i ∷ [] } in
+    subst (IsFault img) (sym c.of.ensures)
+    (halted img c.args.which s active names c.in-Err.halt (subst (λ r. HaltsAt (finding_of m r) c.in-Err.halt) roots (c.in-Err.ensures.answer m (shown_blocks g.D.Dev.tells g.D.Dev.history g.D.Dev.attached g.D.Dev.con_faults _ s img c.args.host.now c.walk_tree.new.host (record { order = c.order.ensures; blocksize = c.blocksize.ensures; count = c.num_blocks.ensures }) c.walk_tree.ensures.reads told bytes))))
+
+pub returns-in-Err-first_reason-clause-says : goal.returns-in-Err-first_reason-clause-says
+returns-in-Err-first_reason-clause-says g c = λ img told bytes active names.
+    subst (IsFault img) (sym c.of-in-Err-first_reason.ensures)
+    (halted img c.args.which c.args.view.now active names c.in-Err-first_reason.halt (c.in-Err-first_reason.ensures.no_finding (finding_of (image_blocks img c.args.view.now) (main_roots c.args.view.now))))
+
+pub returns-in-Some-clause-says : goal.returns-in-Some-clause-says
+returns-in-Some-clause-says g c = λ img told bytes active names.
+    let s : Superblock = c.args.view.now in
+    let m : BlockMap = image_blocks img s in
+    let reads = reads_then c.args.host.now c.walk_tree.new.host c.first_reason.new.host c.walk_tree.ensures.reads c.first_reason.ensures.reads in
+    let roots : ◌≡◌ {A = Roots} (record { inodes = c.root.result; longfile = c.root-2.result; further = c.root-3.result ∷ [] }) (main_roots s) = λ i. record { inodes = c.root.ensures i; longfile = c.root-2.ensures i; further = c.root-3.ensures i ∷ [] } in
+    let is : IsWalked m (main_roots s) c.in-Ok.walked = subst (λ r. IsWalked m r c.in-Ok.walked) roots (c.in-Ok.ensures.walked m (shows_before _ c.walk_tree.new.host c.first_reason.new.host m c.first_reason.ensures.reads (shown_blocks g.D.Dev.tells g.D.Dev.history g.D.Dev.attached g.D.Dev.con_faults _ s img c.args.host.now c.first_reason.new.host (record { order = c.order.ensures; blocksize = c.blocksize.ensures; count = c.num_blocks.ensures }) reads told bytes))) in
+    let long : c.args.len ≡ length img = sym (subst (λ o. IfSome o (λ n. n ≡ c.args.len)) (g.met.D.Dev.extent_is c.args.host.now (reads.before told)) c.requires.len) ∙ ap length bytes in
+    let written : written_geometry s c.args.len ≡ c.geometry_of-geometry.result = sym c.geometry_of-geometry.ensures.geometry in
+    let none : c.in-Ok-first_reason.foreign ≡ None = no_reason c.in-Ok-first_reason.foreign c.last_of-last.result c.in-Some.halt c.last_of-last.ensures.foreign c.in-Some.is in
+    let reason : reason_with m s c.args.which c.geometry_of-geometry.result ≡ None = sym (c.in-Ok-first_reason.ensures.reason m c.args.len (shown_blocks g.D.Dev.tells g.D.Dev.history g.D.Dev.attached g.D.Dev.con_faults _ s img c.args.host.now c.first_reason.new.host (record { order = c.order.ensures; blocksize = c.blocksize.ensures; count = c.num_blocks.ensures }) reads told bytes) written is) ∙ ap (option_map reason_in) none in
+    subst (IsFault img) (sym c.of-in-Some.ensures)
+    (halted_last img c.args.which s active names c.in-Ok.walked is c.geometry_of-geometry.result (ap (written_geometry s) (sym long) ∙ written) c.in-Some.halt reason c.in-Some.ensures.named
+    (subst (IsLast (last_with m s c.geometry_of-geometry.result)) c.in-Some.is (c.last_of-last.ensures.last m c.args.len c.args.which refl refl written is reason none)))
+
+pub returns-in-None-clause-says : goal.returns-in-None-clause-says
+returns-in-None-clause-says g c = λ img told bytes active names.
+    let s : Superblock = c.args.view.now in
+    let m : BlockMap = image_blocks img s in
+    let reads = reads_then c.args.host.now c.walk_tree.new.host c.first_reason.new.host c.walk_tree.ensures.reads c.first_reason.ensures.reads in
+    let roots : ◌≡◌ {A = Roots} (record { inodes = c.root.result; longfile = c.root-2.result; further = c.root-3.result ∷ [] }) (main_roots s) = λ i. record { inodes = c.root.ensures i; longfile = c.root-2.ensures i; further = c.root-3.ensures i ∷ [] } in
+    let is : IsWalked m (main_roots s) c.in-Ok.walked = subst (λ r. IsWalked m r c.in-Ok.walked) roots (c.in-Ok.ensures.walked m (shows_before _ c.walk_tree.new.host c.first_reason.new.host m c.first_reason.ensures.reads (shown_blocks g.D.Dev.tells g.D.Dev.history g.D.Dev.attached g.D.Dev.con_faults _ s img c.args.host.now c.first_reason.new.host (record { order = c.order.ensures; blocksize = c.blocksize.ensures; count = c.num_blocks.ensures }) reads told bytes))) in
+    let long : c.args.len ≡ length img = sym (subst (λ o. IfSome o (λ n. n ≡ c.args.len)) (g.met.D.Dev.extent_is c.args.host.now (reads.before told)) c.requires.len) ∙ ap length bytes in
+    let written : written_geometry s c.args.len ≡ c.geometry_of-geometry.result = sym c.geometry_of-geometry.ensures.geometry in
+    let reason : option_map reason_in c.in-Ok-first_reason.foreign ≡ reason_with m s c.args.which c.geometry_of-geometry.result = c.in-Ok-first_reason.ensures.reason m c.args.len (shown_blocks g.D.Dev.tells g.D.Dev.history g.D.Dev.attached g.D.Dev.con_faults _ s img c.args.host.now c.first_reason.new.host (record { order = c.order.ensures; blocksize = c.blocksize.ensures; count = c.num_blocks.ensures }) reads told bytes) written is in
+    subst (IsSurvey img) (sym c.survey_of.ensures)
+    (surveyed img c.args.which s active names c.in-Ok.walked is c.geometry_of-geometry.result (ap (written_geometry s) (sym long) ∙ written) c.in-Ok-first_reason.foreign (c.in-Ok.ensures.bounds.blocks ∙ c.num_blocks.ensures) reason
+    (λ none. subst (IsLast (last_with m s c.geometry_of-geometry.result)) c.in-None.is (c.last_of-last.ensures.last m c.args.len c.args.which refl refl written is (sym reason ∙ ap (option_map reason_in) none) none)))

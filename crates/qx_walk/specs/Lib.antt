@@ -1,0 +1,15 @@
+pub use Rattle.qx_outside.specs.Calls
+pub use Rattle.qx_blockset.specs.Members
+pub use Rattle.qx_pointers.specs.Shown
+pub use Rattle.qx_pointers.specs.Halts
+pub use Rattle.qx_pointers.specs.Marks
+pub use Rattle.qx_pointers.specs.Parts
+pub use Rattle.qx_view.specs.Walk
+pub mod Tables
+pub mod Kept
+pub mod Rows
+pub mod Trees
+pub mod Inodes
+pub mod Bitmaps
+pub mod Layouts
+pub mod Surveys

@@ -1,0 +1,140 @@
+//! Whether the bitmap of a half is as this project writes it.
+ghost use Rattle.std.specs.Prelude.{◌≡◌, ◌<◌, ◌≤◌, ◌+◌, ◌*◌, ◌^◌, ◌==◌, ℕ, IfOk, IfSome, IfNone, length, IfErr, Option};
+ghost use Rattle.std.specs.Int.{bit_at};
+ghost use Rattle.qx_blockset.specs.Members.{limit_of};
+ghost use Rattle.qx_geom.specs.Layout.{IsGeometry};
+ghost use Rattle.qx_geom.specs.Lists.{first_below};
+ghost use Rattle.qx_nodes.specs.BlockMap.{BlockMap};
+ghost use Rattle.qx_view.specs.Walk.{Finding};
+ghost use Rattle.qx_pointers.specs.Halts.{HaltsAt, IsCaused};
+ghost use Rattle.qx_walk.specs.Layouts.{IsVolumeOf};
+ghost use Rattle.qx_walk.specs.Bitmaps.{is_wanted, is_wrong_bit, is_wrong_in, IsFirst, IsWantedByte};
+ghost use Rattle.qx_pointers.specs.Shown.{Fits, JustReads, Shows};
+
+use crate::halves::first_of_half;
+use qx_pointers::{Halt, Shape, read_block};
+use qx_blockset::BlockSet;
+use qx_geom::{Geometry, Which};
+use qx_outside::Dev;
+
+/// The first block whose bit in the half's bitmap isn't as it must be: 1 for both halves, for blocks that were met, and past the last block.
+pub(crate) fn first_wrong_bit<D: Dev>(
+    host: &mut D,
+    shape: Shape,
+    which: Which,
+    geometry: &Geometry,
+    met: &BlockSet,
+) -> Result<Option<u64>, Halt>
+    requires volume { IsVolumeOf shape geometry.now }
+    requires met { limit_of met.now ≡ shape.count }
+    requires fits { Fits D.extent shape host.old }
+    ensures bit { (m : BlockMap) → Shows D.tells D.history shape host.new m
+        → IfOk result (λ at. at ≡ first_below (is_wrong_bit m geometry.now which met.now) (geometry.now.bitmap_leaves * m.size * 8)) }
+    ensures fits { Fits D.extent shape host.new }
+    ensures reads { JustReads D.tells D.history D.attached D.con_faults host.old host.new }
+    ensures cause { IsCaused (D.dev_faults host.old) (D.dev_faults host.new) result }
+    ensures no_finding { (f : Option Finding) → IfErr result (HaltsAt f) }
+{
+    let first = first_of_half(geometry, which);
+    for leaf in 0..geometry.bitmap_leaves {
+        let begin = u64::from(leaf) * u64::from(shape.blocksize);
+        if let Some(at) = first_wrong_in_leaf(host, shape, geometry, met, first + leaf, begin)? {
+            return Ok(Some(at));
+        }
+    }
+    Ok(None)
+}
+
+/// The first block whose bit in a leaf of a bitmap, whose first byte is the bitmap's byte `begin`, isn't as it must be.
+fn first_wrong_in_leaf<D: Dev>(
+    host: &mut D,
+    shape: Shape,
+    geometry: &Geometry,
+    met: &BlockSet,
+    block: u32,
+    begin: u64,
+) -> Result<Option<u64>, Halt>
+    requires volume { IsVolumeOf shape geometry.now }
+    requires met { limit_of met.now ≡ shape.count }
+    requires block { block < shape.count }
+    requires begin { begin ≤ 2 ^ 50 }
+    requires fits { Fits D.extent shape host.old }
+    ensures bit { (m : BlockMap) → Shows D.tells D.history shape host.new m
+        → IfOk result (IsFirst (is_wrong_in geometry.now met.now begin (m.bytes block)) (begin * 8) ((begin + shape.blocksize) * 8)) }
+    ensures fits { Fits D.extent shape host.new }
+    ensures reads { JustReads D.tells D.history D.attached D.con_faults host.old host.new }
+    ensures cause { IsCaused (D.dev_faults host.old) (D.dev_faults host.new) result }
+    ensures no_finding { (f : Option Finding) → IfErr result (HaltsAt f) }
+{
+    let mut buffer = [0; 4096];
+    let bytes = &mut buffer[0..shape.blocksize as usize];
+    read_block(host, shape, block, bytes)?;
+    Ok(first_wrong_in(geometry, met, begin, bytes))
+}
+
+/// The first block whose bit among these bytes of a bitmap, from its byte `begin` on, isn't as it must be.
+fn first_wrong_in(geometry: &Geometry, met: &BlockSet, begin: u64, bytes: &[u8]) -> Option<u64>
+    requires geometry { IsGeometry geometry.now }
+    requires met { limit_of met.now ≡ geometry.now.num_blocks }
+    requires end { begin + length bytes.now ≤ 2 ^ 60 }
+    ensures { IsFirst (is_wrong_in geometry.now met.now begin bytes.now) (begin * 8) ((begin + length bytes.now) * 8) result }
+{
+    for index in 0..bytes.len() {
+        let place = begin + index as u64;
+        let wanted = wanted_byte(geometry, met, place);
+        if bytes[index] != wanted {
+            let differing = bytes[index] ^ wanted;
+            return Some(place * 8 + u64::from(differing.trailing_zeros()));
+        }
+    }
+    None
+}
+
+/// What a byte of the bitmap must be.
+fn wanted_byte(geometry: &Geometry, met: &BlockSet, place: u64) -> u8
+    requires geometry { IsGeometry geometry.now }
+    requires met { limit_of met.now ≡ geometry.now.num_blocks }
+    requires place { place < 2 ^ 60 }
+    ensures { IsWantedByte geometry.now met.now place result }
+{
+    let halves = 2 * u64::from(geometry.half);
+    let count = u64::from(geometry.num_blocks);
+    let first = place * 8;
+    if first + 8 <= halves {
+        return 0xFF;
+    }
+    if count <= first {
+        return 0xFF;
+    }
+    if halves <= first && first + 8 <= count {
+        return met.byte(place as u32);
+    }
+    byte_by_bits(geometry, met, place)
+}
+
+/// What a byte of the bitmap must be where it is at an end of the user's blocks.
+fn byte_by_bits(geometry: &Geometry, met: &BlockSet, place: u64) -> u8
+    requires geometry { IsGeometry geometry.now }
+    requires met { limit_of met.now ≡ geometry.now.num_blocks }
+    requires place { place < 2 ^ 60 }
+    ensures { IsWantedByte geometry.now met.now place result }
+{
+    let mut byte: u8 = 0;
+    for bit in 0..8u8 {
+        if is_wanted(geometry, met, place * 8 + u64::from(bit)) {
+            byte |= 1 << bit;
+        }
+    }
+    byte
+}
+
+/// Whether a bit of the bitmap must be 1.
+fn is_wanted(geometry: &Geometry, met: &BlockSet, number: u64) -> bool
+    requires geometry { IsGeometry geometry.now }
+    requires met { limit_of met.now ≡ geometry.now.num_blocks }
+    ensures { result ≡ is_wanted geometry.now met.now number }
+{
+    number < 2 * u64::from(geometry.half)
+        || u64::from(geometry.num_blocks) <= number
+        || met.has(number as u32)
+}

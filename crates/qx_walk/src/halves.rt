@@ -1,0 +1,187 @@
+//! Whether both halves of the system blocks are as this project writes them.
+ghost use Rattle.std.specs.Prelude.{◌≡◌, ◌+◌, ◌≤◌, IfOk, length, IfErr, Option};
+ghost use Rattle.qx_blockset.specs.Members.{limit_of};
+ghost use Rattle.qx_geom.specs.Layout.{IsGeometry, IsPointerBlock, first_block, tree_base, tree_leaves, tree_pointers};
+ghost use Rattle.qx_nodes.specs.BlockMap.{BlockMap};
+ghost use Rattle.qx_view.specs.Sound.{has_system_trees, is_system_tree};
+ghost use Rattle.qx_view.specs.Walk.{Finding};
+ghost use Rattle.qx_pointers.specs.Halts.{HaltsAt, IsCaused};
+ghost use Rattle.qx_walk.specs.Layouts.{IsVolumeOf, are_words_of, has_block_of_half, is_laid_out_by};
+ghost use Rattle.qx_pointers.specs.Shown.{Fits, JustReads, Shows};
+
+use qx_pointers::{Halt, Shape, read_block};
+use qx_blockset::BlockSet;
+use qx_fields::{Order, get32};
+use qx_geom::{Geometry, Which};
+use qx_outside::Dev;
+use qx_super::{RootName, SuperView};
+
+/// Whether both root nodes are those of the active half, the pointer blocks of both halves are right, and no block of the other half was met.
+pub(crate) fn is_laid_out<D: Dev>(
+    host: &mut D,
+    shape: Shape,
+    view: &SuperView<'_>,
+    which: Which,
+    geometry: &Geometry,
+    met: &BlockSet,
+) -> Result<bool, Halt>
+    requires volume { IsVolumeOf shape geometry.now }
+    requires met { limit_of met.now ≡ shape.count }
+    requires fits { Fits D.extent shape host.old }
+    ensures right { (m : BlockMap) → Shows D.tells D.history shape host.new m → IfOk result (λ right. right ≡ is_laid_out_by m view.now geometry.now which met.now) }
+    ensures fits { Fits D.extent shape host.new }
+    ensures reads { JustReads D.tells D.history D.attached D.con_faults host.old host.new }
+    ensures cause { IsCaused (D.dev_faults host.old) (D.dev_faults host.new) result }
+    ensures no_finding { (f : Option Finding) → IfErr result (HaltsAt f) }
+{
+    if view.root(RootName::Bitmap) != geometry.system_root(which, true)
+        || view.root(RootName::Inode) != geometry.system_root(which, false)
+    {
+        return Ok(false);
+    }
+    if !has_system_trees(host, shape, geometry, Which::First)?
+        || !has_system_trees(host, shape, geometry, Which::Second)?
+    {
+        return Ok(false);
+    }
+    Ok(!has_block_of_half(geometry, which.other(), met))
+}
+
+/// Whether the pointer blocks of both trees of a half are as they must be.
+fn has_system_trees<D: Dev>(
+    host: &mut D,
+    shape: Shape,
+    geometry: &Geometry,
+    which: Which,
+) -> Result<bool, Halt>
+    requires volume { IsVolumeOf shape geometry.now }
+    requires fits { Fits D.extent shape host.old }
+    ensures words { (m : BlockMap) → Shows D.tells D.history shape host.new m → IfOk result (λ right. right ≡ has_system_trees m geometry.now which) }
+    ensures fits { Fits D.extent shape host.new }
+    ensures reads { JustReads D.tells D.history D.attached D.con_faults host.old host.new }
+    ensures cause { IsCaused (D.dev_faults host.old) (D.dev_faults host.new) result }
+    ensures no_finding { (f : Option Finding) → IfErr result (HaltsAt f) }
+{
+    if !has_system_words(host, shape, geometry, which, true)? {
+        return Ok(false);
+    }
+    has_system_words(host, shape, geometry, which, false)
+}
+
+/// Whether the pointer blocks of a half's tree are as they must be.
+fn has_system_words<D: Dev>(
+    host: &mut D,
+    shape: Shape,
+    geometry: &Geometry,
+    which: Which,
+    bitmap: bool,
+) -> Result<bool, Halt>
+    requires volume { IsVolumeOf shape geometry.now }
+    requires fits { Fits D.extent shape host.old }
+    ensures words { (m : BlockMap) → Shows D.tells D.history shape host.new m
+        → IfOk result (λ right. right ≡ is_system_tree m (tree_base geometry.now which bitmap) (tree_leaves geometry.now bitmap)) }
+    ensures fits { Fits D.extent shape host.new }
+    ensures reads { JustReads D.tells D.history D.attached D.con_faults host.old host.new }
+    ensures cause { IsCaused (D.dev_faults host.old) (D.dev_faults host.new) result }
+    ensures no_finding { (f : Option Finding) → IfErr result (HaltsAt f) }
+{
+    let (first, behind) = pointer_blocks(geometry, which, bitmap);
+    for block in first..behind {
+        if !has_right_words(host, shape, geometry, which, bitmap, block)? {
+            return Ok(false);
+        }
+    }
+    Ok(true)
+}
+
+/// Whether a pointer block is as it must be.
+fn has_right_words<D: Dev>(
+    host: &mut D,
+    shape: Shape,
+    geometry: &Geometry,
+    which: Which,
+    bitmap: bool,
+    block: u32,
+) -> Result<bool, Halt>
+    requires volume { IsVolumeOf shape geometry.now }
+    requires block { IsPointerBlock geometry.now which bitmap block }
+    requires fits { Fits D.extent shape host.old }
+    ensures words { (m : BlockMap) → Shows D.tells D.history shape host.new m
+        → IfOk result (λ right. right ≡ are_words_of geometry.now which bitmap block m.order (m.bytes block)) }
+    ensures fits { Fits D.extent shape host.new }
+    ensures reads { JustReads D.tells D.history D.attached D.con_faults host.old host.new }
+    ensures cause { IsCaused (D.dev_faults host.old) (D.dev_faults host.new) result }
+    ensures no_finding { (f : Option Finding) → IfErr result (HaltsAt f) }
+{
+    let mut buffer = [0; 4096];
+    let bytes = &mut buffer[0..shape.blocksize as usize];
+    read_block(host, shape, block, bytes)?;
+    Ok(are_words_of(geometry, which, bitmap, block, shape.order, bytes))
+}
+
+/// The first pointer block of a half's tree, and the block behind the last.
+fn pointer_blocks(geometry: &Geometry, which: Which, bitmap: bool) -> (u32, u32)
+    requires { IsGeometry geometry.now }
+    ensures first { result.0 ≡ tree_base geometry.now which bitmap + tree_leaves geometry.now bitmap }
+    ensures behind { result.1 ≡ result.0 + tree_pointers geometry.now bitmap }
+    ensures room { result.1 ≤ geometry.now.num_blocks }
+{
+    let bitmaps = first_of_half(geometry, which) + geometry.bitmap_leaves;
+    let bitmap_end = bitmaps + geometry.bitmap_pointers;
+    if bitmap {
+        return (bitmaps, bitmap_end);
+    }
+    let inodes = bitmap_end + geometry.inode_leaves;
+    (inodes, inodes + geometry.inode_pointers)
+}
+
+/// The first block of an area's half.
+pub(crate) fn first_of_half(geometry: &Geometry, which: Which) -> u32
+    requires { IsGeometry geometry.now }
+    ensures first { result ≡ first_block geometry.now which }
+    ensures room { result + geometry.now.half ≤ geometry.now.num_blocks }
+{
+    match which {
+        Which::First => 0,
+        Which::Second => geometry.half,
+    }
+}
+
+/// Whether the words of a pointer block are as they must be.
+fn are_words_of(
+    geometry: &Geometry,
+    which: Which,
+    bitmap: bool,
+    block: u32,
+    order: Order,
+    bytes: &[u8],
+) -> bool
+    requires geometry { IsGeometry geometry.now }
+    requires block { IsPointerBlock geometry.now which bitmap block }
+    requires long { length bytes.now ≡ geometry.now.blocksize }
+    ensures { result ≡ are_words_of geometry.now which bitmap block order bytes.now }
+{
+    for word in 0..geometry.blocksize / 4 {
+        if get32(order, bytes, word as usize * 4)
+            != geometry.system_word(which, bitmap, block, word)
+        {
+            return false;
+        }
+    }
+    true
+}
+
+/// Whether a block of a half was met.
+fn has_block_of_half(geometry: &Geometry, which: Which, met: &BlockSet) -> bool
+    requires geometry { IsGeometry geometry.now }
+    requires met { limit_of met.now ≡ geometry.now.num_blocks }
+    ensures { result ≡ has_block_of_half geometry.now which met.now }
+{
+    let first = first_of_half(geometry, which);
+    for block in first..first + geometry.half {
+        if met.has(block) {
+            return true;
+        }
+    }
+    false
+}

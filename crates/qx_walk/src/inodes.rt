@@ -1,0 +1,153 @@
+//! The inodes of a tree, walked in the order in which they are listed.
+ghost use Rattle.std.specs.Prelude.{◌≡◌, ◌<◌, ◌≤◌, ◌==◌, ◌&&◌, not, nat_lt, Some, is_some, true};
+ghost use Rattle.qx_blockset.specs.Members.{limit_of};
+ghost use Rattle.qx_nodes.specs.BlockMap.{BlockMap};
+ghost use Rattle.qx_records.specs.declared.kind.Kind.TheVariants as kinds;
+ghost use Rattle.qx_records.specs.InodeRecord.{kind_of};
+ghost use Rattle.qx_view.specs.Images.{Roots};
+ghost use Rattle.qx_view.specs.Walk.{inode_mode, inode_root};
+ghost use Rattle.qx_pointers.specs.Halts.{IsCaused};
+ghost use Rattle.qx_walk.specs.Inodes.{Begins, Done, Remembers, WalksAll, WalksInode};
+ghost use Rattle.qx_pointers.specs.Shown.{Fits, JustReads, Shows};
+ghost use Rattle.qx_walk.specs.Tables.{AreInside, HoldsInodes, IsListing, places_of};
+
+use crate::own_nodes::{is_foreign_directory, noted, walk_own_node};
+use crate::way::Way;
+use crate::{Directory, Ground, Queued, Seen, walk_records};
+use qx_pointers::Halt;
+use qx_geom::ABSENT;
+use qx_outside::Dev;
+use qx_records::Kind;
+
+/// Walks the inodes that are listed and those that they list, each in its turn.
+pub(crate) fn walk_inodes<D: Dev>(
+    host: &mut D,
+    ground: &Ground,
+    way: &mut Way,
+    seen: &mut Seen,
+) -> Result<(), Halt>
+    requires met { limit_of way.old.met ≡ ground.now.shape.count }
+    requires inside { AreInside ground.now.shape.count seen.old.longs }
+    requires listing { IsListing (places_of ground.now.table) seen.old.listing }
+    requires fits { Fits D.extent ground.now.shape host.old }
+    ensures walked { (m : BlockMap) (r : Roots) → Shows D.tells D.history ground.now.shape host.new m → HoldsInodes m r.inodes ground.now.table
+        → Begins m r way.old seen.old → WalksAll m r result way.new seen.new }
+
+    // Whether the device tells or not.
+    ensures limit { limit_of way.new.met ≡ limit_of way.old.met }
+    ensures inside { AreInside ground.now.shape.count seen.new.longs }
+    ensures listing { IsListing (places_of ground.now.table) seen.new.listing }
+    ensures fits { Fits D.extent ground.now.shape host.new }
+    ensures reads { JustReads D.tells D.history D.attached D.con_faults host.old host.new }
+    ensures cause { IsCaused (D.dev_faults host.old) (D.dev_faults host.new) result }
+{
+    while let Some(queued) = seen.listing.take() {
+        walk_inode(host, ground, queued, way, seen)?;
+    }
+    Ok(())
+}
+
+/// Walks an inode: its node, unless it is a special, the size of a link, and a directory's records.
+fn walk_inode<D: Dev>(
+    host: &mut D,
+    ground: &Ground,
+    queued: Queued,
+    way: &mut Way,
+    seen: &mut Seen,
+) -> Result<(), Halt>
+    requires there { (0 < queued.inode) × (queued.inode ≤ places_of ground.now.table) }
+    requires met { limit_of way.old.met ≡ ground.now.shape.count }
+    requires inside { AreInside ground.now.shape.count seen.old.longs }
+    requires listing { IsListing (places_of ground.now.table) seen.old.listing }
+    requires fits { Fits D.extent ground.now.shape host.old }
+    ensures walked { (m : BlockMap) (r : Roots) (done : Done) → Shows D.tells D.history ground.now.shape host.new m → HoldsInodes m r.inodes ground.now.table
+        → Remembers m r done way.old seen.old → is_some (kind_of (inode_mode m r queued.inode)) ≡ true
+        → WalksInode m r queued.inode queued.parent done result way.new seen.new }
+
+    ensures limit { limit_of way.new.met ≡ limit_of way.old.met }
+    ensures inside { AreInside ground.now.shape.count seen.new.longs }
+    ensures listing { IsListing (places_of ground.now.table) seen.new.listing }
+    ensures next { seen.new.listing.next ≡ seen.old.listing.next }
+    ensures fits { Fits D.extent ground.now.shape host.new }
+    ensures reads { JustReads D.tells D.history D.attached D.con_faults host.old host.new }
+    ensures cause { IsCaused (D.dev_faults host.old) (D.dev_faults host.new) result }
+{
+    let inode = ground.table.inode(queued.inode);
+    // The records that listed it were tested for its kind.
+    let Some(kind) = Kind::of(inode.mode) else {
+        return Ok(());
+    };
+    match kind {
+        Kind::Special => Ok(()),
+        Kind::File => {
+            walk_own_node(host, ground.shape, queued.inode, &inode.root, false, way)?;
+            Ok(())
+        }
+        Kind::Link => {
+            walk_own_node(host, ground.shape, queued.inode, &inode.root, false, way)?;
+            if !is_link_size(inode.root.size) {
+                return Err(Halt::Finding {
+                    code: 6,
+                    inode: queued.inode,
+                    block: ABSENT,
+                });
+            }
+            Ok(())
+        }
+        Kind::Directory => {
+            let directory = Directory {
+                inode: queued.inode,
+                parent: queued.parent,
+                node: inode.root,
+            };
+            walk_directory(host, ground, &directory, way, seen)
+        }
+    }
+}
+
+/// Whether a link's path may have so many bytes.
+fn is_link_size(size: u64) -> bool
+    ensures { result ≡ (not (size == 0) && nat_lt size 1024) }
+{
+    size != 0 && size < 1024
+}
+
+/// Walks the node of a directory and its records, and notes where they aren't as this project writes them.
+fn walk_directory<D: Dev>(
+    host: &mut D,
+    ground: &Ground,
+    directory: &Directory,
+    way: &mut Way,
+    seen: &mut Seen,
+) -> Result<(), Halt>
+    requires there { (0 < directory.now.inode) × (directory.now.inode ≤ places_of ground.now.table) }
+    requires met { limit_of way.old.met ≡ ground.now.shape.count }
+    requires inside { AreInside ground.now.shape.count seen.old.longs }
+    requires listing { IsListing (places_of ground.now.table) seen.old.listing }
+    requires fits { Fits D.extent ground.now.shape host.old }
+    ensures walked { (m : BlockMap) (r : Roots) (done : Done) → Shows D.tells D.history ground.now.shape host.new m → HoldsInodes m r.inodes ground.now.table
+        → Remembers m r done way.old seen.old → kind_of (inode_mode m r directory.now.inode) ≡ Some kinds.Directory → directory.now.node ≡ inode_root m r directory.now.inode
+        → WalksInode m r directory.now.inode directory.now.parent done result way.new seen.new }
+
+    ensures limit { limit_of way.new.met ≡ limit_of way.old.met }
+    ensures inside { AreInside ground.now.shape.count seen.new.longs }
+    ensures listing { IsListing (places_of ground.now.table) seen.new.listing }
+    ensures next { seen.new.listing.next ≡ seen.old.listing.next }
+    ensures fits { Fits D.extent ground.now.shape host.new }
+    ensures reads { JustReads D.tells D.history D.attached D.con_faults host.old host.new }
+    ensures cause { IsCaused (D.dev_faults host.old) (D.dev_faults host.new) result }
+{
+    let part = walk_own_node(
+        host,
+        ground.shape,
+        directory.inode,
+        &directory.node,
+        true,
+        way,
+    )?;
+    let dots = walk_records(host, ground, directory, &way.leaves, seen)?;
+    let foreign = is_foreign_directory(ground.shape, &directory.node, part);
+    way.notes.nodes = noted(way.notes.nodes, foreign, directory.inode);
+    way.notes.dots = noted(way.notes.dots, !dots, directory.inode);
+    Ok(())
+}

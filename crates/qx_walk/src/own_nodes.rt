@@ -1,0 +1,112 @@
+//! The node of an inode, and what is noted of it.
+ghost use Rattle.std.specs.Prelude.{◌≡◌, ◌<◌, ◌≤◌, ◌%◌, ℕ, List, All, IfErr, IfOk, IfSome, OnOk, Option};
+ghost use Rattle.qx_blockset.specs.Members.{limit_of};
+ghost use Rattle.qx_geom.specs.Pointer.{ceil_div, reach};
+ghost use Rattle.qx_nodes.specs.BlockMap.{BlockMap};
+ghost use Rattle.qx_view.specs.Sound.{are_zero, is_foreign_directory as is_foreign_directory_node, is_foreign_node as is_foreign_root};
+ghost use Rattle.qx_view.specs.Walk.{Finding};
+ghost use Rattle.qx_pointers.specs.Halts.{HaltsAt, IsCaused};
+ghost use Rattle.qx_walk.specs.Inodes.{WalksNode, tail_at};
+ghost use Rattle.qx_pointers.specs.Marks.{Marks};
+ghost use Rattle.qx_pointers.specs.Parts.{IsPlaced, IsWhole};
+ghost use Rattle.qx_pointers.specs.Shown.{Fits, JustReads, Shows};
+ghost use Rattle.qx_walk.specs.Trees.{note_if};
+
+use crate::way::Way;
+use qx_pointers::{Halt, Part, Shape, Visitor, read_block, walk_node};
+use qx_geom::{Root, levels};
+use qx_outside::Dev;
+
+/// Walks the node of inode n, and notes where it isn't as this project writes it.
+pub(crate) fn walk_own_node<D: Dev>(
+    host: &mut D,
+    shape: Shape,
+    n: u32,
+    node: &Root,
+    keeps: bool,
+    way: &mut Way,
+) -> Result<Part, Halt>
+    requires met { limit_of way.old.met ≡ shape.count }
+    requires fits { Fits D.extent shape host.old }
+    ensures walked { (m : BlockMap) (met : List ℕ) → Shows D.tells D.history shape host.new m → Marks way.old.met met
+        → WalksNode m n node.now keeps met result way.old way.new }
+
+    // Whether the device tells or not.
+    ensures placed { OnOk result (All (IsPlaced shape node.now) way.new.leaves.items) }
+    ensures dots { way.new.notes.dots ≡ way.old.notes.dots }
+    ensures limit { limit_of way.new.met ≡ limit_of way.old.met }
+    ensures fits { Fits D.extent shape host.new }
+    ensures reads { JustReads D.tells D.history D.attached D.con_faults host.old host.new }
+    ensures cause { IsCaused (D.dev_faults host.old) (D.dev_faults host.new) result }
+{
+    way.leaves.clear();
+    let visitor = Visitor {
+        shape,
+        inode: n,
+        bounded: false,
+        keeps,
+    };
+    let part = walk_node(host, &visitor, node, &mut way.met, &mut way.leaves)?;
+    let tail = has_tail(host, shape, node, part)?;
+    way.notes.nodes = noted(way.notes.nodes, is_foreign_node(shape, node, part), n);
+    way.notes.tails = noted(way.notes.tails, tail, n);
+    Ok(part)
+}
+
+/// Whether a node isn't as this project writes it, of which this was seen.
+pub(crate) fn is_foreign_node(shape: Shape, node: &Root, part: Part) -> bool
+    requires bounds { ceil_div node.now.size shape.blocksize ≤ reach shape.blocksize 5 }
+    ensures { (m : BlockMap) → m.size ≡ shape.blocksize → IsWhole m node.now part → result ≡ is_foreign_root m node.now }
+{
+    let leaves = node.size.div_ceil(u64::from(shape.blocksize));
+    node.levels != levels(leaves, shape.blocksize) || part.strays || part.bare
+}
+
+/// Whether a directory isn't as this project writes it by its size or its holes.
+pub(crate) fn is_foreign_directory(shape: Shape, node: &Root, part: Part) -> bool
+    ensures { (m : BlockMap) → m.size ≡ shape.blocksize → IsWhole m node.now part → result ≡ is_foreign_directory_node m node.now }
+{
+    let blocksize = u64::from(shape.blocksize);
+    node.size == 0 || node.size % blocksize != 0 || part.leaves != node.size / blocksize
+}
+
+/// The lesser of a number that was noted and of this one, if it is to be noted.
+pub(crate) fn noted(before: Option<u32>, fails: bool, n: u32) -> Option<u32>
+    ensures { result ≡ note_if fails n before }
+{
+    match before {
+        _ if !fails => before,
+        None => Some(n),
+        Some(least) => Some(least.min(n)),
+    }
+}
+
+/// Whether a byte past a node's size, in its last leaf, isn't 0.
+fn has_tail<D: Dev>(host: &mut D, shape: Shape, node: &Root, part: Part) -> Result<bool, Halt>
+    requires end { IfSome part.end (λ block. block < shape.count) }
+    requires fits { Fits D.extent shape host.old }
+    ensures tail { (m : BlockMap) → Shows D.tells D.history shape host.new m → IfOk result (λ tail. tail ≡ tail_at m (node.now.size % m.size) part.end) }
+    ensures no_finding { (f : Option Finding) → IfErr result (HaltsAt f) }
+    ensures fits { Fits D.extent shape host.new }
+    ensures reads { JustReads D.tells D.history D.attached D.con_faults host.old host.new }
+    ensures cause { IsCaused (D.dev_faults host.old) (D.dev_faults host.new) result }
+{
+    let Some(block) = part.end else {
+        return Ok(false);
+    };
+    let past = (node.size % u64::from(shape.blocksize)) as usize;
+    if past == 0 {
+        return Ok(false);
+    }
+    let mut buffer = [0; 4096];
+    let leaf = &mut buffer[0..shape.blocksize as usize];
+    read_block(host, shape, block, leaf)?;
+    Ok(!is_zero(&leaf[past..]))
+}
+
+/// Whether all bytes are 0.
+fn is_zero(bytes: &[u8]) -> bool
+    ensures { result ≡ are_zero bytes.now }
+{
+    bytes.iter().all(|byte| *byte == 0)
+}

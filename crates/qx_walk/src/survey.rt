@@ -1,0 +1,67 @@
+//! What a walk answers.
+
+use qx_pointers::Halt;
+use qx_blockset::BlockSet;
+use qx_fields::Order;
+use qx_geom::Which;
+
+/// Why an image with a tree isn't laid out as this project writes it: the reason's number, 1 to 7, and the least number to which it applies.
+#[derive(Clone, Copy, Debug, PartialEq, Eq)]
+pub struct Foreign {
+    pub reason: u8,
+    pub at: u64,
+}
+
+/// What an image is that has a tree.
+#[derive(Drop)]
+pub struct Survey {
+    /// The active area.
+    pub which: Which,
+    pub serial: u64,
+    pub order: Order,
+    /// When the volume was made, in seconds since 1970.
+    pub ctime: u32,
+    /// The size of a block, in bytes.
+    pub blocksize: u32,
+    pub num_blocks: u32,
+    pub num_inodes: u32,
+    /// The blocks that the tree holds, those of the system trees among them.
+    pub held: BlockSet,
+    /// How many inodes are reached.
+    pub live: u32,
+    /// How many blocks are free: of a sound image as its superblock says, of a foreign one all that the walk didn't meet.
+    pub free_blocks: u32,
+    /// The first reason for which the image is foreign, if there is one.
+    pub foreign: Option<Foreign>,
+}
+
+/// Why a walk gives no survey.
+#[derive(Clone, Copy, Debug, PartialEq, Eq)]
+pub enum WalkFault {
+    /// No area has a valid superblock.
+    NoVolume,
+    /// Both areas are valid, and are not of one volume.
+    Disagree,
+    /// The image is damaged: the code of the first test that fails, the inode under the walk (0 for root nodes) and the block in question, or `ABSENT`.
+    Finding { code: u8, inode: u32, block: u32 },
+    /// A device call failed.
+    Device,
+    /// There was no memory for what the walk keeps.
+    NoMemory,
+}
+
+impl WalkFault {
+    ghost use Rattle.std.specs.Prelude.{◌≡◌};
+    ghost use Rattle.qx_walk.specs.Surveys.{fault_of};
+
+    /// The fault of a walk that halted.
+    pub fn of(halt: Halt) -> WalkFault
+        ensures { result ≡ fault_of halt }
+    {
+        match halt {
+            Halt::Finding { code, inode, block } => WalkFault::Finding { code, inode, block },
+            Halt::Device => WalkFault::Device,
+            Halt::NoMemory => WalkFault::NoMemory,
+        }
+    }
+}

@@ -1,0 +1,108 @@
+//! The tree of a volume, walked from its root nodes.
+ghost use Rattle.std.specs.Prelude.{◌≡◌, ◌<◌, ℕ, IfOk, OnOk};
+ghost use Rattle.qx_blockset.specs.Members.{Members};
+ghost use Rattle.qx_nodes.specs.BlockMap.{BlockMap};
+ghost use Rattle.qx_view.specs.Images.{Roots};
+ghost use Rattle.qx_view.specs.Walk.{finding_of, top_tests};
+ghost use Rattle.qx_pointers.specs.Halts.{Answers, IsCaused};
+ghost use Rattle.qx_pointers.specs.Marks.{GoesThrough};
+ghost use Rattle.qx_pointers.specs.Shown.{Fits, JustReads, Shows};
+ghost use Rattle.qx_walk.specs.Tables.{HoldsInodes, places_of};
+ghost use Rattle.qx_walk.specs.Trees.{HasBounds, IsWalked, roots_of};
+
+use crate::inodes::walk_inodes;
+use crate::own_nodes::{is_foreign_node, noted};
+use crate::way::Way;
+use crate::{Ground, InodeTable, Listing, LongNames, Names, Notes, RootNodes, Seen, Walked};
+use qx_pointers::{Halt, Shape, Visitor, walk_node};
+use qx_blockset::BlockSet;
+use qx_geom::ABSENT;
+use qx_outside::Dev;
+use qx_records::Kind;
+use std::alloc::Global;
+
+/// Walks the tree that begins at these root nodes, to its first finding.
+pub fn walk_tree<D: Dev>(
+    alloc: Global,
+    host: &mut D,
+    shape: Shape,
+    roots: &RootNodes,
+) -> Result<Walked, Halt>
+    requires fits { Fits D.extent shape host.old }
+    ensures answer { (m : BlockMap) → Shows D.tells D.history shape host.new m → Answers (finding_of m (roots_of roots.now)) result }
+    ensures walked { (m : BlockMap) → Shows D.tells D.history shape host.new m → IfOk result (IsWalked m (roots_of roots.now)) }
+
+    // Whether the device tells or not.
+    ensures bounds { IfOk result (HasBounds shape.count) }
+    ensures fits { Fits D.extent shape host.new }
+    ensures reads { JustReads D.tells D.history D.attached D.con_faults host.old host.new }
+    ensures cause { IsCaused (D.dev_faults host.old) (D.dev_faults host.new) result }
+{
+    let mut met = BlockSet::new(alloc, shape.count)?;
+    let mut leaves = Vec::new(alloc);
+    let visitor = Visitor {
+        shape,
+        inode: 0,
+        bounded: true,
+        keeps: true,
+    };
+    walk_node(host, &visitor, &roots.inodes, &mut met, &mut leaves)?;
+    let table = InodeTable::read(alloc, host, shape, &roots.inodes, &leaves)?;
+    leaves.clear();
+    let longfile = walk_node(host, &visitor, &roots.longfile, &mut met, &mut leaves)?;
+    let longs = LongNames::new(alloc, shape, &roots.longfile, &leaves)?;
+    leaves.clear();
+    let unkept = Visitor {
+        keeps: false,
+        ..visitor
+    };
+    walk_node(host, &unkept, &roots.bitmap, &mut met, &mut leaves)?;
+    test_top(&table)?;
+    let foreign = is_foreign_node(shape, &roots.longfile, longfile);
+    let tail = table.has_tail();
+    let notes = Notes {
+        nodes: noted(None, foreign, 0),
+        dots: None,
+        tails: noted(None, tail, 0),
+    };
+    let listing = Listing::new(alloc, table.places())?;
+    let mut way = Way { met, leaves, notes };
+    let mut seen = Seen {
+        names: Names::new(alloc),
+        longs,
+        listing,
+    };
+    let ground = Ground { shape, table };
+    walk_inodes(host, &ground, &mut way, &mut seen)?;
+    Ok(Walked {
+        long: seen.longs.bad(shape),
+        live: seen.listing.count(),
+        reached: seen.listing.into_listed(),
+        met: way.met,
+        table: ground.table,
+        notes: way.notes,
+    })
+}
+
+/// Goes through the tests of inode 1.
+fn test_top(table: &InodeTable) -> Result<(), Halt>
+    ensures tests { (m : BlockMap) (r : Roots) (met : Members) → HoldsInodes m r.inodes table.now → GoesThrough (top_tests m r) result met met }
+    ensures some { OnOk result (0 < places_of table.now) }
+    ensures cause { (faults : ℕ) → IsCaused faults faults result }
+{
+    if table.places() == 0 {
+        return Err(Halt::Finding {
+            code: 4,
+            inode: 1,
+            block: ABSENT,
+        });
+    }
+    match Kind::of(table.inode(1).mode) {
+        Some(Kind::Directory) => Ok(()),
+        None | Some(Kind::File | Kind::Link | Kind::Special) => Err(Halt::Finding {
+            code: 5,
+            inode: 1,
+            block: ABSENT,
+        }),
+    }
+}
