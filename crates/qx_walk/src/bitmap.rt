@@ -12,10 +12,10 @@ ghost use Rattle.qx_walk.specs.Bitmaps.{is_wanted, is_wrong_bit, is_wrong_in, Is
 ghost use Rattle.qx_pointers.specs.Shown.{Fits, JustReads, Shows};
 
 use crate::halves::first_of_half;
-use qx_pointers::{Halt, Shape, read_block};
 use qx_blockset::BlockSet;
 use qx_geom::{Geometry, Which};
 use qx_outside::Dev;
+use qx_pointers::{Halt, Shape, read_block};
 
 /// The first block whose bit in the half's bitmap isn't as it must be: 1 for both halves, for blocks that were met, and past the last block.
 pub(crate) fn first_wrong_bit<D: Dev>(

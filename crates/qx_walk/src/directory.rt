@@ -22,9 +22,9 @@ ghost use Rattle.qx_pointers.specs.Shown.{Fits, JustReads, Shows};
 ghost use Rattle.qx_walk.specs.Tables.{AreInside, AreLeaves, HasListed, HoldsInodes, HoldsNames, IsListing, places_of};
 
 use crate::{Directory, Ground, Listing, RecordPlace, Seen};
-use qx_pointers::{Halt, LeafPlace, Shape, read_block};
 use qx_fields::Order;
 use qx_outside::Dev;
+use qx_pointers::{Halt, LeafPlace, Shape, read_block};
 use qx_records::{Kind, Slot, name_sum, name_sum_signed, slot_at};
 
 /// Goes through the tests of a directory's records, and lists the inodes that they name.

@@ -9,11 +9,11 @@ ghost use Rattle.qx_pointers.specs.Halts.{HaltsAt, IsCaused};
 ghost use Rattle.qx_walk.specs.Layouts.{IsVolumeOf, are_words_of, has_block_of_half, is_laid_out_by};
 ghost use Rattle.qx_pointers.specs.Shown.{Fits, JustReads, Shows};
 
-use qx_pointers::{Halt, Shape, read_block};
 use qx_blockset::BlockSet;
 use qx_fields::{Order, get32};
 use qx_geom::{Geometry, Which};
 use qx_outside::Dev;
+use qx_pointers::{Halt, Shape, read_block};
 use qx_super::{RootName, SuperView};
 
 /// Whether both root nodes are those of the active half, the pointer blocks of both halves are right, and no block of the other half was met.

@@ -14,9 +14,9 @@ ghost use Rattle.qx_walk.specs.Tables.{AreInside, HoldsInodes, IsListing, places
 use crate::own_nodes::{is_foreign_directory, noted, walk_own_node};
 use crate::way::Way;
 use crate::{Directory, Ground, Queued, Seen, walk_records};
-use qx_pointers::Halt;
 use qx_geom::ABSENT;
 use qx_outside::Dev;
+use qx_pointers::Halt;
 use qx_records::Kind;
 
 /// Walks the inodes that are listed and those that they list, each in its turn.

@@ -18,9 +18,9 @@ ghost use Rattle.qx_walk.specs.Trees.{HasBounds, IsWalked};
 use crate::bitmap::first_wrong_bit;
 use crate::halves::is_laid_out;
 use crate::{Foreign, InodeTable, Walked};
-use qx_pointers::{Halt, Shape};
 use qx_geom::{ABSENT, Geometry, Root, Which};
 use qx_outside::Dev;
+use qx_pointers::{Halt, Shape};
 use qx_records::Kind;
 use qx_super::{RootName, SuperView};
 
@@ -197,7 +197,12 @@ fn has_right_counts(view: &SuperView<'_>, geometry: &Geometry, walked: &Walked) 
 }
 
 /// The last finding of a volume that has this geometry, if it has one, and for which no reason applies.
-pub fn last_of(view: &SuperView<'_>, geometry: Option<Geometry>, foreign: Option<Foreign>, walked: &Walked) -> Option<Halt>
+pub fn last_of(
+    view: &SuperView<'_>,
+    geometry: Option<Geometry>,
+    foreign: Option<Foreign>,
+    walked: &Walked,
+) -> Option<Halt>
     requires geometry { IfSome geometry (HasNumbers view.now) }
     requires bounds { HasBounds view.now.num_blocks walked.now }
     ensures last { (m : BlockMap) (len : ℕ) (which : Area) → m.size ≡ view.now.blocksize → m.count ≡ view.now.num_blocks → written_geometry view.now len ≡ geometry → IsWalked m (main_roots view.now) walked.now

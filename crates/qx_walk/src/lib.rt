@@ -25,9 +25,6 @@ mod tree;
 mod walked;
 mod way;
 
-pub use survey::{Foreign, Survey, WalkFault};
-pub use surveying::walk;
-
 use directory::walk_records;
 use listing::{Listing, Queued};
 use long_names::LongNames;
@@ -35,5 +32,7 @@ use names::Names;
 use notes::Notes;
 use roots::RootNodes;
 use seen::{Directory, Ground, RecordPlace, Seen};
+pub use survey::{Foreign, Survey, WalkFault};
+pub use surveying::walk;
 use table::InodeTable;
 use walked::Walked;

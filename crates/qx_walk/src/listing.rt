@@ -1,7 +1,7 @@
 //! The inodes that were listed, and those that are still to be taken.
 
-use qx_pointers::Halt;
 use qx_blockset::BlockSet;
+use qx_pointers::Halt;
 use std::alloc::Global;
 
 /// An inode that is listed, and the directory whose row listed it.

@@ -1,8 +1,8 @@
 //! The leaves of the Longfile, and how often each was named.
 
-use qx_pointers::{Halt, LeafPlace, Shape, read_block};
 use qx_geom::Root;
 use qx_outside::Dev;
+use qx_pointers::{Halt, LeafPlace, Shape, read_block};
 use qx_records::LongView;
 use std::alloc::Global;
 

@@ -13,9 +13,9 @@ ghost use Rattle.qx_pointers.specs.Shown.{Fits, JustReads, Shows};
 ghost use Rattle.qx_walk.specs.Trees.{note_if};
 
 use crate::way::Way;
-use qx_pointers::{Halt, Part, Shape, Visitor, read_block, walk_node};
 use qx_geom::{Root, levels};
 use qx_outside::Dev;
+use qx_pointers::{Halt, Part, Shape, Visitor, read_block, walk_node};
 
 /// Walks the node of inode n, and notes where it isn't as this project writes it.
 pub(crate) fn walk_own_node<D: Dev>(

@@ -1,9 +1,9 @@
 //! What a walk answers.
 
-use qx_pointers::Halt;
 use qx_blockset::BlockSet;
 use qx_fields::Order;
 use qx_geom::Which;
+use qx_pointers::Halt;
 
 /// Why an image with a tree isn't laid out as this project writes it: the reason's number, 1 to 7, and the least number to which it applies.
 #[derive(Clone, Copy, Debug, PartialEq, Eq)]

@@ -13,9 +13,9 @@ ghost use Rattle.qx_walk.specs.Surveys.{SaysOf, survey_by};
 use crate::layout::{first_reason, geometry_of, last_of};
 use crate::tree::walk_tree;
 use crate::{Foreign, RootNodes, Survey, WalkFault, Walked};
-use qx_pointers::Shape;
 use qx_geom::Which;
 use qx_outside::Dev;
+use qx_pointers::Shape;
 use qx_super::{Pick, RootName, SuperView, active_view, areas};
 use std::alloc::Global;
 
@@ -43,7 +43,13 @@ pub fn walk<D: Dev>(alloc: Global, host: &mut D, len: u64) -> Result<Survey, Wal
 }
 
 /// Surveys the volume of an active superblock.
-fn survey<D: Dev>(alloc: Global, host: &mut D, len: u64, which: Which, view: &SuperView<'_>) -> Result<Survey, WalkFault>
+fn survey<D: Dev>(
+    alloc: Global,
+    host: &mut D,
+    len: u64,
+    which: Which,
+    view: &SuperView<'_>,
+) -> Result<Survey, WalkFault>
     requires len { IfSome (D.extent host.old) (λ n. n ≡ len) }
     requires sized { IsTrue (is_block_size view.now.blocksize) }
     requires room { second_place_of view.now + 512 ≤ len }

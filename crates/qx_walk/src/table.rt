@@ -1,10 +1,10 @@
 //! The inodes of a volume, read once.
 ghost use Rattle.std.specs.Prelude.{◌≤◌, length};
 
-use qx_pointers::{Halt, LeafPlace, Shape, read_block};
 use qx_fields::Order;
 use qx_geom::Root;
 use qx_outside::{Dev, Failed};
+use qx_pointers::{Halt, LeafPlace, Shape, read_block};
 use qx_records::{Inode, InodeView};
 use std::alloc::Global;
 

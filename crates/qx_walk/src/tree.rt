@@ -14,10 +14,10 @@ use crate::inodes::walk_inodes;
 use crate::own_nodes::{is_foreign_node, noted};
 use crate::way::Way;
 use crate::{Ground, InodeTable, Listing, LongNames, Names, Notes, RootNodes, Seen, Walked};
-use qx_pointers::{Halt, Shape, Visitor, walk_node};
 use qx_blockset::BlockSet;
 use qx_geom::ABSENT;
 use qx_outside::Dev;
+use qx_pointers::{Halt, Shape, Visitor, walk_node};
 use qx_records::Kind;
 use std::alloc::Global;
 

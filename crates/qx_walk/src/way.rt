@@ -1,8 +1,8 @@
 //! What the walk keeps of the nodes that it went through.
 
 use crate::Notes;
-use qx_pointers::LeafPlace;
 use qx_blockset::BlockSet;
+use qx_pointers::LeafPlace;
 
 /// What the walk keeps of the nodes that it went through.
 #[derive(Drop)]

@@ -3,10 +3,10 @@ ghost use Rattle.std.specs.Prelude.{◌≡◌, ◌+◌, IfOk, Some, length};
 ghost use Rattle.qx_outside.specs.Memory.{extent_of};
 
 use super::LongNames;
-use qx_pointers::{LeafPlace, Shape};
 use qx_fields::Order::{Big, Little};
 use qx_geom::{ABSENT, Root};
 use qx_outside::MemHost;
+use qx_pointers::{LeafPlace, Shape};
 use qx_records::write_long_name;
 use std::alloc::Global;
 use std::test::Fail;

@@ -4,10 +4,10 @@ ghost use Rattle.qx_outside.specs.Memory.{extent_of};
 ghost use Rattle.qx_walk.specs.Tables.{places_of};
 
 use super::InodeTable;
-use qx_pointers::{LeafPlace, Shape};
 use qx_fields::Order::{self, Big, Little};
 use qx_geom::{ABSENT, Root};
 use qx_outside::MemHost;
+use qx_pointers::{LeafPlace, Shape};
 use qx_records::{Inode, write_inode};
 use std::alloc::Global;
 use std::test::Fail;

@@ -19,5 +19,5 @@ returns-in-Some-clause-says g c = λ told.
     let active : active_area img ≡ picks.Active c.in-Active.which = sym (c.in-Ok.ensures.active before) ∙ c.in-Active.is in
     let long : c.args.len ≡ length img = told_length _ _ (length img) c.args.len c.areas.ensures.extent (g.met.D.Dev.extent_is c.areas.new.host before) c.requires.len in
     let names : active_super img ≡ Some c.in-Some.view = active_read img c.areas.new.first c.areas.new.second c.in-Active.which c.args.len c.in-Some.view long
-        (record { first_bytes = c.in-Ok.ensures.first before; second_bytes = c.in-Ok.ensures.second before }) (sym c.active_view.ensures ∙ c.in-Some.is) active in
+    (record { first_bytes = c.in-Ok.ensures.first before; second_bytes = c.in-Ok.ensures.second before }) (sym c.active_view.ensures ∙ c.in-Some.is) active in
     subst (λ h. SaysOf (bytes_of h) c.survey.result) (c.areas.ensures.step.step before) (c.survey.ensures.says img told refl active names)
