@@ -133,13 +133,15 @@ supers_stage g order moment bytes = areas_stage g (made_super_bytes g order mome
 abbrev pub rest_stage : List ℕ → Stage
 rest_stage bytes = record { kept = bytes; puts = [] }
 
--- the bytes once both new areas are zeroed, once the blocks stand, and once the superblocks do
+-- the bytes once both new areas are zeroed
 abbrev pub with_areas : Geometry → List ℕ → List ℕ
 with_areas g bytes = after_stage (clear_stage g bytes)
 
+-- once the blocks of both halves and the root directory's are put as well
 abbrev pub with_blocks : Geometry → Order → ℕ → List ℕ → List ℕ
 with_blocks g order moment bytes = after_stage (blocks_stage g order moment bytes)
 
+-- once both superblocks are
 abbrev pub with_supers : Geometry → Order → ℕ → List ℕ → List ℕ
 with_supers g order moment bytes = after_stage (supers_stage g order moment bytes)
 

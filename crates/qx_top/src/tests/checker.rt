@@ -189,3 +189,45 @@ fn a_word_that_begins_with_a_line_is_an_image(rt: HostRuntime) -> Result<(), Fai
     assert_eq!(rt; ended, 0);
     Ok(())
 }
+
+/// The bytes with noise from one place to another, by a generator of 64 bits from a seed on.
+fn with_noise(mut device: Vec<u8>, seed: u64, from: usize, to: usize) -> Vec<u8> {
+    let mut state = seed;
+    for (at, byte) in device.iter_mut().enumerate() {
+        state = state
+            .wrapping_mul(6_364_136_223_846_793_005)
+            .wrapping_add(1_442_695_040_888_963_407);
+        if from <= at && at < to {
+            *byte = (state >> 56 & 0xFF) as u8;
+        }
+    }
+    device
+}
+
+/// Behind superblocks that are valid: all blocks, the root directory's, or the active Inode tree's but for inode 1.
+/// The lines are those of the second reading in `bench/verify.py`.
+#[test]
+fn noise_behind_a_superblock_gets_a_verdict(rt: HostRuntime) -> Result<(), Fail> {
+    let alloc = rt.alloc();
+    let no_directory = ("damaged 5 inode 1 block 4294967295\n", 2);
+    let too_large = ("damaged 1 inode 1 block 4294967295\n", 2);
+    let bad_record = ("damaged 7 inode 1 block 10\n", 2);
+    let noisy_inode = ("foreign 6 at 2\n", 0);
+    let cases = [
+        (1, 0x3000, 0xF000, no_directory),
+        (2, 0x3000, 0xF000, no_directory),
+        (5, 0x3000, 0xF000, too_large),
+        (8, 0x3000, 0xF000, no_directory),
+        (3, 0x4400, 0x4600, bad_record),
+        (13, 0x4400, 0x4600, bad_record),
+        (21, 0x3C80, 0x4000, noisy_inode),
+        (34, 0x3C80, 0x4000, noisy_inode),
+    ];
+    for (seed, from, to, (line, status)) in cases {
+        let device = with_noise(small_image(alloc)?, seed, from, to);
+        let (ended, host) = ran(alloc, &CHECK, device, &[])?;
+        assert_eq!(rt; host.output()?.as_slice(), line.as_bytes(), "{seed}");
+        assert_eq!(rt; ended, status, "{seed}");
+    }
+    Ok(())
+}
