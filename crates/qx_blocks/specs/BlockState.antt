@@ -1,5 +1,6 @@
 -- Blocks as the layers above see them: who holds each, and what its bytes are.
 use Rattle.std.specs.Prelude.{◌≡◌, ℕ, ◌+◌, ◌-◌, ◌<◌, ◌≤◌, ◌^◌, ◌⊎◌, ◌==◌, Bool, true, false, List, [], length, replicate, IsTrue, if◌then◌else◌}
+use Rattle.qx_outside.specs.Trail.{History}
 
 -- of `count` blocks of `size` bytes each: those that some tree holds, those that the working tree holds, those that it alone holds, those that can be written at once, and how many more can be taken
 pub record Holdings : Type 0 where
@@ -11,11 +12,12 @@ pub record Holdings : Type 0 where
   pub ready : ℕ → Bool
   pub free : ℕ
 
--- who holds the blocks, whether the bytes of all held ones are told, and the bytes: those of a held block mean something where all are told or the block is ready, and a block that no tree holds has none
+-- who holds the blocks, whether the bytes of all held ones are told, the bytes, and what was done outside: the bytes of a held block mean something where all are told or the block is ready, a block that no tree holds has none, and the history means something where bytes are told
 pub record BlockState : Type 0 where
   pub holdings : Holdings
   pub tells : Bool
   pub bytes : ℕ → List ℕ
+  pub history : History
 
 -- the same but for one number, which has this value
 abbrev pub put : {A : Type 0} → (ℕ → A) → ℕ → A → ℕ → A

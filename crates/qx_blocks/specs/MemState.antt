@@ -1,5 +1,6 @@
 -- Blocks in memory, seen as the bytes of each block that is held.
 use Rattle.std.specs.Prelude.{◌≡◌, ℕ, ◌<◌, ◌^◌, Bool, true, not, List, [], ◌++◌, take, drop, Option, Some, None, is_some, unwrap_or, count_by, length, slice_index_or, slice_set, option_map}
+use Rattle.qx_outside.specs.Trail.{History}
 use Rattle.qx_blocks.specs.BlockState.{BlockState, IsBlockSize}
 
 -- the block size, and for each block its bytes where it is held
@@ -19,6 +20,10 @@ holds v b = is_some (slot_at v b)
 abbrev pub free_in : MemState → ℕ
 free_in v = count_by (λ slot. not (is_some slot)) v.blocks
 
+-- nothing was done outside
+abbrev pub no_history : History
+no_history = record { starting = []; deeds = [] }
+
 -- what the blocks in memory mean: a held block is the working tree's alone, and ready
 abbrev pub state_of : MemState → BlockState
 state_of v = record {
@@ -33,6 +38,7 @@ state_of v = record {
   };
   tells = true;
   bytes = λ b. unwrap_or (slot_at v b) [];
+  history = no_history;
 }
 
 -- as many bytes as the old ones: the new, cut or filled up from the old

@@ -31,6 +31,12 @@ pub trait Blocks {
     /// Who holds each block, and what its bytes are.
     ghost state: { Self → BlockState };
 
+    /// What else an implementer keeps that none of these calls changes.
+    ghost Aside: { Type 0 } = { Unit {0} };
+
+    /// What it keeps, such as which blocks other trees hold.
+    ghost aside: { Self → Self.Aside };
+
     /// How often the device failed. It never falls.
     ghost faults: { Self → ℕ };
 
@@ -49,6 +55,7 @@ pub trait Blocks {
         ensures ready { IfOk result (λ lent. IsTrue ((state self.old).holdings.ready b) → lent.now ≡ (state self.old).bytes b) }
         ensures* leaves { sem 𝓛 (Rests Self.row self.entry (λ new.
             Keeps (state self.old) (state new)
+            × (aside new ≡ aside self.old)
             × HasStopCause (faults self.old) (faults new) result
             × IfOk result (λ lent. IsTrue (state new).tells → lent.now ≡ (state self.old).bytes b))) };
 
@@ -59,6 +66,7 @@ pub trait Blocks {
         ensures unheld { IfOk result (λ b. (state self.old).holdings.held b ≡ false) }
         ensures refused { IfErr result (λ stop. stop ≡ Stop.NoMemory) }
         ensures err { OnErr result (state self.new ≡ state self.old) }
+        ensures aside { aside self.new ≡ aside self.old }
         ensures faults { faults self.new ≡ faults self.old };
 
     /// Makes a block ready to be written that the working tree alone holds.
@@ -66,6 +74,7 @@ pub trait Blocks {
         requires { IsTrue ((state self.old).holdings.private b) }
         ensures ok { OnOk result (MakesReady b (state self.old) (state self.new)) }
         ensures err { OnErr result (Keeps (state self.old) (state self.new)) }
+        ensures aside { aside self.new ≡ aside self.old }
         ensures cause { HasStopCause (faults self.old) (faults self.new) result };
 
     /// Lends a ready block for writing. All other blocks stay.
@@ -79,6 +88,7 @@ pub trait Blocks {
     fn release(&mut self, b: u32)
         requires { IsTrue ((state self.old).holdings.works b) }
         ensures released { state self.new ≡ without (state self.old) b }
+        ensures aside { aside self.new ≡ aside self.old }
         ensures faults { faults self.new ≡ faults self.old };
 
     /// Whether the working tree alone holds the block.
@@ -102,4 +112,7 @@ pub trait Blocks {
 
     /// A write through `edit` makes no outside call.
     ghost edits_faults: { (x : Self) (b : ℕ) (new : List ℕ) → faults (edited x b new) ≡ faults x };
+
+    /// It changes nothing of what the implementer keeps beside.
+    ghost edits_aside: { (x : Self) (b : ℕ) (new : List ℕ) → aside (edited x b new) ≡ aside x };
 }

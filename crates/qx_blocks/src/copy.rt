@@ -21,6 +21,7 @@ pub fn fresh_copy<B: Blocks>(blocks: &mut B, from: u32) -> Result<u32, Stop>
     ensures copied { IfOk result (λ to. IsTrue ((B.state blocks.old).holdings.ready from) → (B.state blocks.new).bytes to ≡ (B.state blocks.old).bytes from) }
 
     ensures err { OnErr result (Keeps (B.state blocks.old) (B.state blocks.new)) }
+    ensures aside { B.Blocks.aside blocks.new ≡ B.Blocks.aside blocks.old }
     ensures cause { HasStopCause (B.faults blocks.old) (B.faults blocks.new) result }
 {
     let mut buffer = [0; 4096];

@@ -67,6 +67,8 @@ impl MemBlocks {
 impl Blocks for MemBlocks {
     ghost state = { state_of };
 
+    ghost aside = { λ _. tt };
+
     ghost faults = { λ _. 0 };
 
     ghost edited = { edited_in };
@@ -76,6 +78,8 @@ impl Blocks for MemBlocks {
     ghost edits = { state-edited };
 
     ghost edits_faults = { λ _ _ _. refl };
+
+    ghost edits_aside = { λ _ _ _. refl };
 
     fn size(&self) -> usize {
         self.size

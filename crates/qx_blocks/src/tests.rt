@@ -13,6 +13,7 @@ fn last_byte<B: Blocks>(blocks: &mut B, b: u32) -> Result<u8, Stop>
     ensures told { IfOk result (λ byte. IsTrue (B.state blocks.new).tells → byte ≡ slice_index ((B.state blocks.old).bytes b) ((B.state blocks.old).holdings.size - 1)) }
     ensures ready { IfOk result (λ byte. IsTrue ((B.state blocks.old).holdings.ready b) → byte ≡ slice_index ((B.state blocks.old).bytes b) ((B.state blocks.old).holdings.size - 1)) }
     ensures keeps { Keeps (B.state blocks.old) (B.state blocks.new) }
+    ensures aside { B.Blocks.aside blocks.new ≡ B.Blocks.aside blocks.old }
     ensures cause { HasStopCause (B.faults blocks.old) (B.faults blocks.new) result }
 {
     let size = blocks.size();
@@ -27,6 +28,7 @@ fn set_last<B: Blocks>(blocks: &mut B, b: u32, value: u8) -> Result<(), Stop>
     ensures told { OnOk result (IsTrue (B.state blocks.new).tells
         → B.state blocks.new ≡ with_bytes (with_ready (B.state blocks.old) b) b (slice_set ((B.state blocks.old).bytes b) ((B.state blocks.old).holdings.size - 1) value)) }
     ensures err { OnErr result (Keeps (B.state blocks.old) (B.state blocks.new)) }
+    ensures aside { B.Blocks.aside blocks.new ≡ B.Blocks.aside blocks.old }
     ensures cause { HasStopCause (B.faults blocks.old) (B.faults blocks.new) result }
 {
     let size = blocks.size();
@@ -44,6 +46,7 @@ fn copy_each<B: Blocks>(blocks: &mut B, from: &[u32], into: &mut [u32]) -> Resul
     ensures taken { OnOk result ((k : ℕ) → k < length from.now → IsTrue ((B.state blocks.new).holdings.held (slice_index into.new k))) }
     ensures copies { OnOk result (IsTrue (B.state blocks.new).tells → (k : ℕ) → k < length from.now
         → (B.state blocks.new).bytes (slice_index into.new k) ≡ (B.state blocks.old).bytes (slice_index from.now k)) }
+    ensures aside { B.Blocks.aside blocks.new ≡ B.Blocks.aside blocks.old }
     ensures cause { HasStopCause (B.faults blocks.old) (B.faults blocks.new) result }
 {
     for (i, b) in from.iter().enumerate() {
