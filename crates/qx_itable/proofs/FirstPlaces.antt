@@ -42,6 +42,7 @@ first-known s place first below =
     find-here (λ x. not (has s x)) 0 (limit_of s) place (omega arith) (omega arith)
     (λ y low high. ap not (first.behind.each y low high)) (ap not first.absent)
 
+-- and where it is the limit there is none
 pub none-known : (s : Members) (place : ℕ) → IsFirstFrom s 0 place → limit_of s ≤ place → first_absent_in s ≡ None
 none-known s place first past = find-nowhere (λ x. not (has s x)) 0 (limit_of s) (λ y low high. ap not (first.behind.each y low (omega arith)))
 

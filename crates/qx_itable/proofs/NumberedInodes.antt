@@ -93,11 +93,13 @@ none-of : (o : Option Inode) → is_none o ≡ true → o ≡ None
 none-of None is = refl
 none-of (Some inode) is = absurd (cc is)
 
+-- and one that isn't none is live
 not_none : (o : Option Inode) → is_none o ≡ false → is_some o ≡ true
 not_none None is = absurd (cc is)
 not_none (Some inode) is = refl
 
 module _ (t : TableState) where
+  -- the test of the definition
   abbrev is_free : ℕ → Bool
   is_free n = is_none (inode_of t n)
 
@@ -105,9 +107,11 @@ module _ (t : TableState) where
   pub free-first : (n : ℕ) → first_free_in t ≡ Some n → IsFirstOf is_free 1 (length t.inodes) n
   free-first n found = find-tells is_free 1 (length t.inodes) n found
 
+  -- it has no live inode
   pub free-none : (n : ℕ) → first_free_in t ≡ Some n → inode_of t n ≡ None
   free-none n found = none-of (inode_of t n) (free-first n found).passes
 
+  -- and all below it have one
   pub free-least : (n m : ℕ) → first_free_in t ≡ Some n → 1 ≤ m → m < n → is_some (inode_of t m) ≡ true
   free-least n m found low high = not_none (inode_of t m) ((free-first n found).before m low high)
 

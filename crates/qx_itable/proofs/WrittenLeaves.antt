@@ -38,24 +38,28 @@ joined-records f a (suc n) bytes long each =
           ∙ each (k + 1) (omega arith) ∙ ap f (let e : a + (k + 1) ≡ a + 1 + k = omega arith in e)
 
 module _ (t : TableState) (first place : ℕ) (bytes part : List ℕ) (whole : length part ≡ 128) (room : place * 128 + 128 ≤ length bytes) where
+  -- the bytes once this part was written at the place
   abbrev new : List ℕ
   new = take (place * 128) bytes ++ (part ++ drop (place * 128 + 128 - place * 128) (drop (place * 128) bytes))
 
-  -- the records are those before, and the one that was put
+  -- it is a put
   put_is : new ≡ replace_range bytes (place * 128) (place * 128 + 128) part
   put_is = part-written bytes part (place * 128) 128 whole ∙ ap (λ (n : ℕ). replace_range bytes (place * 128) (place * 128 + n) part) whole
 
+  -- the records before stay
   before : (k : ℕ) → k < place → slice_range new (k * 128) (k * 128 + 128) ≡ slice_range bytes (k * 128) (k * 128 + 128)
   before k low =
       let ends : k * 128 + 128 ≤ place * 128 = grind arith in
       ap (λ (l : List ℕ). slice_range l (k * 128) (k * 128 + 128)) put_is
       ∙ range_put_before bytes part (place * 128) 128 (k * 128) 128 ends (omega arith)
 
+  -- the one that was put stands there
   itself : slice_range new (place * 128) (place * 128 + 128) ≡ part
   itself =
       ap (λ (l : List ℕ). slice_range l (place * 128) (place * 128 + 128)) put_is
       ∙ range_put_same bytes part (place * 128) 128 whole (omega arith)
 
+  -- so one record more is written
   pub written-more : ((k : ℕ) → k < place → IsWritten t first bytes k) → part ≡ record_bytes t.order (inode_of t (first + place + 1))
       → if_live (inode_in t.order part) ≡ inode_of t (first + place + 1) → (k : ℕ) → k < place + 1 → IsWritten t first new k
   written-more so_far record_is read_back = below_more _ _

@@ -14,7 +14,7 @@ pub record TableState : Type 0 where
 abbrev pub if_live : Inode → Option Inode
 if_live inode = if inode.mode == 0 then None else Some inode
 
--- the inode of a number, where there is one that is live
+-- the inode of a number, where there is one that is live; numbers begin at 1
 abbrev pub inode_of : TableState → ℕ → Option Inode
 inode_of t n = slice_index_or t.inodes (n - 1) None
 
