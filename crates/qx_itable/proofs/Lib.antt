@@ -1,0 +1,4 @@
+pub mod FirstPlaces
+pub mod KeptInodes
+pub mod WrittenLeaves
+pub mod NumberedInodes

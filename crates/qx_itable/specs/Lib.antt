@@ -1,0 +1,4 @@
+pub mod FirstPlace
+pub mod LiveView
+pub mod TableState
+pub mod TableView
