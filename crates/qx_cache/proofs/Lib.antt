@@ -1,0 +1,5 @@
+pub mod BlockPlaces
+pub mod Spaces
+pub mod CoherentSteps
+pub mod OrderSteps
+pub mod BlockMeanings
