@@ -1,5 +1,5 @@
 //! The cache as the blocks of the working tree.
-ghost use Rattle.std.specs.Prelude.{◌≡◌, ◌<◌, false, refl, IsTrue, IfErr, IfOk, OnErr, OnOk};
+ghost use Rattle.std.specs.Prelude.{◌≡◌, ◌<◌, ◌≤◌, false, refl, replicate, IsTrue, IfErr, IfOk, OnErr, OnOk};
 ghost use Rattle.qx_blocks.specs.BlockState.{with_fresh, without};
 ghost use Rattle.qx_blocks.specs.Calls.{HasStopCause, Keeps, MakesReady};
 ghost use Rattle.qx_blockset.specs.Members.{has};
@@ -12,8 +12,16 @@ use crate::cache::kept_but;
 use qx_blocks::{Blocks, Stop};
 use qx_outside::Dev;
 
-// The bytes of a fresh block, and more.
+// The bytes of the largest block, all 0.
 static ZEROS: [u8; 4096] = [0; 4096];
+
+// The bytes of a fresh block.
+fn zeros(size: usize) -> &'static [u8]
+    requires { size ≤ 4096 }
+    ensures { result.now ≡ replicate size 0 }
+{
+    &ZEROS[..size]
+}
 
 impl<H: Dev> Blocks for Cache<H> {
     ghost state = { state_of H.tells H.history };
@@ -61,7 +69,7 @@ impl<H: Dev> Blocks for Cache<H> {
     {
         self.changes.reserve(1)?;
         let b = self.space.take();
-        self.changes.put(b, &ZEROS[..self.size]);
+        self.changes.put(b, zeros(self.size));
         self.clean = kept_but(self.clean, b);
         Ok(b)
     }

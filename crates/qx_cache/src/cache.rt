@@ -191,7 +191,8 @@ impl<H: Dev> Cache<H> {
 
     // Whether the block is the one that is kept.
     fn is_kept(&self, b: u32) -> bool
-        ensures { result ≡ is_kept self.now.kept b }
+        ensures kept { result ≡ is_kept self.now.kept b }
+        ensures few { length self.now.kept ≤ 1 }
     {
         match self.clean {
             Some(kept) => b == kept,
