@@ -34,13 +34,21 @@ clean-parts None frozen is = is
 clean-parts (Some x) frozen is = absurd (cc is)
 
 module _ {H : Type 0} {extent : H → Option ℕ} (c : CacheState H) (b : ℕ) (bytes : List ℕ) (k : IsCoherent extent c) (least : IsLeast c.frozen_changes b) (there : get c.frozen_changes b ≡ Some bytes) where
-  -- the least changed block of the frozen tree is the next
-  pub is-next : IsNext c b bytes
-  is-next = record { least = least; has_bytes = there; long = k.frozen_long b bytes there; frozen = (k.frozen_changed b least.there).0; undurable = (k.frozen_changed b least.there).1 }
-
   -- some tree holds it
   pub next-held : is_held c.space b ≡ true
-  next-held = (frozen-held (has c.space.working b) (has c.space.frozen b) (has c.space.durable b) is-next.frozen).0
+  next-held = (frozen-held (has c.space.working b) (has c.space.frozen b) (has c.space.durable b) (k.frozen_changed b least.there).0).0
+
+  -- the least changed block of the frozen tree is the next
+  pub is-next : IsNext c b bytes
+  is-next = record {
+    least = least;
+    has_bytes = there;
+    long = k.frozen_long b bytes there;
+    user = (held-user c.space b k.space next-held).0;
+    below = (held-user c.space b k.space next-held).1;
+    frozen = (k.frozen_changed b least.there).0;
+    undurable = (k.frozen_changed b least.there).1;
+  }
 
   -- it is no change of the working tree
   pub next-absent : get c.changes b ≡ None

@@ -37,6 +37,8 @@ pub record IsNext {H : Type 0} (c : CacheState H) (block : ℕ) (bytes : List �
   pub least : IsLeast c.frozen_changes block
   pub has_bytes : get c.frozen_changes block ≡ Some bytes
   pub long : length bytes ≡ c.size
+  pub user : c.space.first_user ≤ block
+  pub below : block < limit_in c.space
   pub frozen : Has c.space.frozen block
   pub undurable : has c.space.durable block ≡ false
 

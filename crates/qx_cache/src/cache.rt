@@ -69,6 +69,7 @@ impl<H: Dev> Cache<H> {
         requires room { 0 < room }
         requires fits { HasRoom (H.extent host) blocksize (limit_in space) }
         ensures ok { IfOk result (λ cache. cache ≡ record { host = host; size = blocksize; space = space; changes = empty; frozen_changes = empty; kept = [] }) }
+        ensures coherent { IfOk result (λ cache. IsCoherent H.extent cache) }
         ensures err { IfErr result (λ back. back ≡ host) }
     {
         // What any space is consistent in.
@@ -104,6 +105,7 @@ impl<H: Dev> Cache<H> {
 
         ensures blocks { HasSameBlocks H.tells H.history self.old self.new }
         ensures others { LeavesRest H.extent H.attached H.dev_reads H.con_faults self.old.host self.new.host }
+        ensures coherent { IsCoherent H.extent self.new }
     {
         let Some(b) = self.frozen_changes.least() else {
             return Ok(false);
@@ -129,6 +131,7 @@ impl<H: Dev> Cache<H> {
         ensures rest { self.new ≡ with_host self.old self.new.host }
         ensures blocks { HasSameBlocks H.tells H.history self.old self.new }
         ensures others { LeavesRest H.extent H.attached H.dev_reads H.con_faults self.old.host self.new.host }
+        ensures coherent { IsCoherent H.extent self.new }
     {
         self.host.write_at(at, bytes)
     }
@@ -143,6 +146,7 @@ impl<H: Dev> Cache<H> {
         ensures rest { self.new ≡ with_host self.old self.new.host }
         ensures blocks { HasSameBlocks H.tells H.history self.old self.new }
         ensures others { LeavesRest H.extent H.attached H.dev_reads H.con_faults self.old.host self.new.host }
+        ensures coherent { IsCoherent H.extent self.new }
     {
         self.host.sync()
     }
@@ -153,6 +157,7 @@ impl<H: Dev> Cache<H> {
         ensures frozen { self.new ≡ with_frozen self.old }
         ensures changes { (b : ℕ) → change_of self.new b ≡ change_of self.old b }
         ensures free { free_in self.new.space ≡ free_in self.old.space }
+        ensures coherent { IsCoherent H.extent self.new }
     {
         self.space.freeze();
         swap(&mut self.changes, &mut self.frozen_changes);
@@ -162,7 +167,8 @@ impl<H: Dev> Cache<H> {
     pub fn thaw(&mut self)
         requires frozen { self.old.space.is_frozen ≡ true }
         requires written { self.old.frozen_changes ≡ empty }
-        ensures { self.new ≡ with_thawed self.old }
+        ensures thawed { self.new ≡ with_thawed self.old }
+        ensures coherent { IsCoherent H.extent self.new }
     {
         self.space.thaw_into_durable();
     }

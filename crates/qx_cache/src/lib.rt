@@ -11,3 +11,6 @@ mod cache;
 mod host;
 
 pub use cache::Cache;
+
+#[cfg(test)]
+mod tests;

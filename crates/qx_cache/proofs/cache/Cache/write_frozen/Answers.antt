@@ -101,3 +101,6 @@ returns-clause-blocks g c =
     (same-written g.H.Dev.tells g.H.Dev.history v host b bytes (next-absent v b bytes k c.in-Some.ensures there) there (next-held v b bytes k c.in-Some.ensures there)
     (next-stands v b bytes k c.in-Some.ensures there g.H.Dev.tells g.H.Dev.history g.met.H.Dev.extent_is host did)
     (others-stay v b bytes k c.in-Some.ensures there g.H.Dev.tells g.H.Dev.history g.met.H.Dev.extent_is host writes)))
+
+pub returns-clause-coherent : goal.returns-clause-coherent
+returns-clause-coherent g c = (invariant_of-self-2 g c).coherent
