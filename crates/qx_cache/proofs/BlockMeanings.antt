@@ -112,7 +112,7 @@ module _ {H : Type 0} (tells : H → Bool) (history : H → History) where
       refl
       (λ q. (λ i. chosen (get-put c.changes b q (replicate c.size 0) i) (get c.frozen_changes q) (held-set c.space b q true free.below none.1.0 none.1.1 i) (device q))
       ∙ elim (q == b) as (λ t. chosen (if t then Some (replicate c.size 0) else get c.changes q) (get c.frozen_changes q) (if t then true else is_held c.space q) (device q)
-          ≡ (if t then replicate c.size 0 else chosen (get c.changes q) (get c.frozen_changes q) (is_held c.space q) (device q))) [ true ↦ refl | false ↦ refl ])
+      ≡ (if t then replicate c.size 0 else chosen (get c.changes q) (get c.frozen_changes q) (is_held c.space q) (device q))) [ true ↦ refl | false ↦ refl ])
       refl
 
   -- once the working tree gives a block up
@@ -120,7 +120,7 @@ module _ {H : Type 0} (tells : H → Bool) (history : H → History) where
       → state_of tells history (with_released c b) ≡ without (state_of tells history c) b
   state-released c b k works more =
       elim (is_private_in c.space b) as (λ t. is_private_in c.space b ≡ t → free_in (space.without c.space b) ≡ (if t then free_in c.space + 1 else free_in c.space)
-          → state_of tells history (with_released c b) ≡ (if t then with_free (state_of tells history c) b else with_shared (state_of tells history c) b)) [
+      → state_of tells history (with_released c b) ≡ (if t then with_free (state_of tells history c) b else with_shared (state_of tells history c) b)) [
         | true ↦ λ is left.
             let others = private-alone (has c.space.working b) (has c.space.frozen b) (has c.space.durable b) is in
             same_state (state_of tells history (with_released c b)) (with_free (state_of tells history c) b)
@@ -130,7 +130,7 @@ module _ {H : Type 0} (tells : H → Bool) (history : H → History) where
             refl
             (λ q. (λ i. chosen (get-gone c.changes b q i) (get c.frozen_changes q) (held-set c.space b q false low others.0 others.1 i) (device q))
             ∙ elim (q == b) as (λ u. (q == b) ≡ u → chosen (if u then None else get c.changes q) (get c.frozen_changes q) (if u then false else is_held c.space q) (device q)
-                ≡ (if u then [] else chosen (get c.changes q) (get c.frozen_changes q) (is_held c.space q) (device q))) [
+            ≡ (if u then [] else chosen (get c.changes q) (get c.frozen_changes q) (is_held c.space q) (device q))) [
               | true ↦ λ e. ap (λ o. chosen None o false (device q)) (ap (get c.frozen_changes) (eqb-true q b e) ∙ unfrozen others.0)
               | false ↦ λ _. refl
             ] refl)
@@ -147,11 +147,14 @@ module _ {H : Type 0} (tells : H → Bool) (history : H → History) where
       ] refl more where
         low : b < limit_in c.space
         low = has-below c.space.working b works
+
         device : ℕ → List ℕ
         device q = device_block (bytes_of (history c.host)) c.size q
+
         none_there : (o : Option (List ℕ)) → is_some o ≡ false → o ≡ None
         none_there None is = refl
         none_there (Some x) is = absurd (cc is)
+
         unfrozen : has c.space.frozen b ≡ false → get c.frozen_changes b ≡ None
         unfrozen out =
             elim (get c.frozen_changes b) as (λ o. get c.frozen_changes b ≡ o → o ≡ None) [
@@ -168,6 +171,7 @@ module _ {H : Type 0} (tells : H → Bool) (history : H → History) where
   } where
     state_in : Bool → History → BlockState
     state_in t h = record (state_of tells history c) { tells = t; bytes = bytes_over (bytes_of h) c; history = h }
+
     both : (s t : Bool) → s ≡ true → t ≡ true → s ≡ t
     both s t f g = f ∙ sym g
 

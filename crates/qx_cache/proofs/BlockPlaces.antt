@@ -32,7 +32,7 @@ places-apart size a b differ = elim (cases_lt a b) [
 
 -- a block within the device has as many bytes as it should
 pub length-device_block : (device : List ℕ) (size b : ℕ) → block_place size b + size ≤ length device → length (device_block device size b) ≡ size
-length-device_block device size b within = 
+length-device_block device size b within =
     omega (arith, length-take (block_place size b + size - block_place size b) (drop (block_place size b) device), length-drop (block_place size b) device)
 
 module _ {D : Type 0} (tells : D → Bool) (history : D → History) where

@@ -50,6 +50,7 @@ module _ {H : Type 0} (tells : H → Bool) (history : H → History) (extent dev
   } where
     back : c.kept ≡ (if is_some (change_of c b) then c.kept else kept_with c.kept b)
     back = sym (ap (λ t. if t then c.kept else kept_with c.kept b) is)
+
     read : (t : Bool) → t ≡ true → dev_reads c.host ≡ (if t then dev_reads c.host else if is_kept c.kept b then dev_reads c.host else option_map (λ n. n + 1) (dev_reads c.host))
     read true is = refl
     read false is = absurd (cc is)
@@ -67,6 +68,7 @@ module _ {H : Type 0} (tells : H → Bool) (history : H → History) (extent dev
     back : (t : Bool) → c.kept ≡ (if t then c.kept else kept_with c.kept b)
     back true = refl
     back false = kept-again c.kept b few is
+
     read : (t u : Bool) → u ≡ true → dev_reads c.host ≡ (if t then dev_reads c.host else if u then dev_reads c.host else option_map (λ n. n + 1) (dev_reads c.host))
     read true u is = refl
     read false true is = refl

@@ -179,6 +179,7 @@ module _ {H : Type 0} {extent : H → Option ℕ} where
         before : (q : ℕ) → b < limit_in c.space → has (slice_set c.space.working b false) q ≡ true → has c.space.working q ≡ true
         before q low is =
             elim (q == b) as (λ t. (if t then false else has c.space.working q) ≡ true → has c.space.working q ≡ true) [ true ↦ λ e. absurd (cc e) | false ↦ λ e. e ] (sym (works-set c.space b q false low) ∙ is)
+
         gone : (q : ℕ) → b < limit_in c.space → is_private_in (space.without c.space b) q ≡ put (is_private_in c.space) b false q
         gone q low =
             elim (is_private_in c.space b) as (λ t. is_private_in c.space b ≡ t → is_private_in (space.without c.space b) q ≡ put (is_private_in c.space) b false q) [

@@ -21,6 +21,7 @@ pub held-user : (s : SpaceState) (b : ℕ) → IsConsistent s → is_held s b �
 held-user s b k held = (user, below) where
   user : s.first_user ≤ b
   user = elim (cases_lt b s.first_user) [ inl low ↦ (let none : is_held s b ≡ false = k.users b low in absurd (cc (held, none))) | inr high ↦ high ]
+
   below : b < limit_in s
   below = one_of_three (has s.working b) (has s.frozen b) (has s.durable b) (b < limit_in s) (λ w. has-below s.working b w)
       (λ f. let low = has-below s.frozen b f in let long = k.frozen_long in omega arith) (λ d. let low = has-below s.durable b d in let long = k.durable_long in omega arith) held

@@ -26,13 +26,15 @@ returns g c =
       (
         refl,
         λ _. tt,
-        (subst (λ w. Keeps (state_of g.H.Dev.tells g.H.Dev.history old) (state_of g.H.Dev.tells g.H.Dev.history w)) (sym whole) (keeps-read g.H.Dev.tells g.H.Dev.history old new.host kept idles),
-        ap (aside_of g.H.Dev.attached g.H.Dev.con_faults) whole ∙ same-aside g.H.Dev.attached g.H.Dev.con_faults old new.host kept c.in_ok-bring.ensures.others.paths c.in_ok-bring.ensures.others.console,
-        record { later = c.in_ok-bring.ensures.cause.later; device = tt },
-        λ told. c.at_hand.ensures.told told
-            ∙ ap (λ w. bytes_over (bytes_of (g.H.Dev.history new.host)) w c.args.b) whole
-            ∙ ap (λ h. bytes_over (bytes_of h) old c.args.b) (idles.step told),
-        c.in_ok-bring.ensures.reads),
+        (
+          subst (λ w. Keeps (state_of g.H.Dev.tells g.H.Dev.history old) (state_of g.H.Dev.tells g.H.Dev.history w)) (sym whole) (keeps-read g.H.Dev.tells g.H.Dev.history old new.host kept idles),
+          ap (aside_of g.H.Dev.attached g.H.Dev.con_faults) whole ∙ same-aside g.H.Dev.attached g.H.Dev.con_faults old new.host kept c.in_ok-bring.ensures.others.paths c.in_ok-bring.ensures.others.console,
+          record { later = c.in_ok-bring.ensures.cause.later; device = tt },
+          λ told. c.at_hand.ensures.told told
+              ∙ ap (λ w. bytes_over (bytes_of (g.H.Dev.history new.host)) w c.args.b) whole
+              ∙ ap (λ h. bytes_over (bytes_of h) old c.args.b) (idles.step told),
+          c.in_ok-bring.ensures.reads,
+        ),
       ),
       record {
         long = c.at_hand.ensures.long ∙ ap (λ w. w.size) whole;

@@ -24,8 +24,13 @@ invariant_of-self g c =
     let a = c.self.inside in
     let v = cache_in a.host a.size a.space a.changes a.frozen_changes a.clean in
     order-unread v a.changes a.frozen_changes a.buffer.items a.spare.items _ c.read_at.new.self c.self.invariant c.read_at.ensures.extent c.read_at.ensures.step
-    (omega (arith, length-take a.spare.len (c.read_at.new.into ++ drop (length c.read_at.new.into) a.spare.items), length-append c.read_at.new.into (drop (length c.read_at.new.into) a.spare.items),
-      length-drop (length c.read_at.new.into) a.spare.items, a.spare.ok.0))
+    (omega (
+      arith,
+      length-take a.spare.len (c.read_at.new.into ++ drop (length c.read_at.new.into) a.spare.items),
+      length-append c.read_at.new.into (drop (length c.read_at.new.into) a.spare.items),
+      length-drop (length c.read_at.new.into) a.spare.items,
+      a.spare.ok.0,
+    ))
 
 pub invariant_of-self-2 : goal.invariant_of-self-2
 invariant_of-self-2 g c =

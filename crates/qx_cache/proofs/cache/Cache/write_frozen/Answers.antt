@@ -24,7 +24,7 @@ invariant_of-self g c =
     let writes : Writes g.H.Dev.tells g.H.Dev.history (block_place a.size c.in-Some.b) bytes a.host c.write_at.new.self = subst (λ at. Writes g.H.Dev.tells g.H.Dev.history at bytes a.host c.write_at.new.self) c.block_place.ensures.place c.write_at.ensures.step in
     order-host v a.changes a.frozen_changes a.buffer.items a.spare.items c.write_at.new.self c.self.invariant c.write_at.ensures.others.extent_same writes.before
     (λ q kept told. others-stay v c.in-Some.b bytes c.self.invariant.coherent c.in-Some.ensures there g.H.Dev.tells g.H.Dev.history g.met.H.Dev.extent_is c.write_at.new.self writes told q
-      (kept-apart v c.in-Some.b bytes c.self.invariant.coherent c.in-Some.ensures there q kept))
+    (kept-apart v c.in-Some.b bytes c.self.invariant.coherent c.in-Some.ensures there q kept))
 
 pub returns-in_err-write_at-clause-failed : goal.returns-in_err-write_at-clause-failed
 returns-in_err-write_at-clause-failed g c =
@@ -50,8 +50,8 @@ returns-in_err-write_at-clause-blocks g c =
     let writes : Writes g.H.Dev.tells g.H.Dev.history (block_place a.size c.in-Some.b) bytes a.host c.write_at.new.self = subst (λ at. Writes g.H.Dev.tells g.H.Dev.history at bytes a.host c.write_at.new.self) c.block_place.ensures.place c.write_at.ensures.step in
     subst (λ w. HasSameBlocks g.H.Dev.tells g.H.Dev.history w (with_host v c.write_at.new.self)) c.self.view_is
     (same-blocks g.H.Dev.tells g.H.Dev.history v c.write_at.new.self (λ told q clean held.
-      others-stay v c.in-Some.b bytes c.self.invariant.coherent c.in-Some.ensures there g.H.Dev.tells g.H.Dev.history g.met.H.Dev.extent_is c.write_at.new.self writes told q
-      (clean-apart v c.in-Some.b bytes c.self.invariant.coherent c.in-Some.ensures there q clean)))
+    others-stay v c.in-Some.b bytes c.self.invariant.coherent c.in-Some.ensures there g.H.Dev.tells g.H.Dev.history g.met.H.Dev.extent_is c.write_at.new.self writes told q
+    (clean-apart v c.in-Some.b bytes c.self.invariant.coherent c.in-Some.ensures there q clean)))
 
 pub invariant_of-self-2 : goal.invariant_of-self-2
 invariant_of-self-2 g c =
@@ -63,7 +63,7 @@ invariant_of-self-2 g c =
     subst (λ p. IsInOrder g.H.Dev.tells g.H.Dev.history g.H.Dev.extent (cache_in c.write_at.new.self a.size a.space a.changes p a.clean) a.changes p a.buffer.items a.spare.items) (sym c.take_out.ensures)
     (order-written v a.changes a.frozen_changes a.buffer.items a.spare.items c.write_at.new.self c.in-Some.b c.self.invariant c.in-Some.ensures.there c.write_at.ensures.others.extent_same writes.before
     (λ q kept told. others-stay v c.in-Some.b bytes c.self.invariant.coherent c.in-Some.ensures there g.H.Dev.tells g.H.Dev.history g.met.H.Dev.extent_is c.write_at.new.self writes told q
-      (kept-apart v c.in-Some.b bytes c.self.invariant.coherent c.in-Some.ensures there q kept)))
+    (kept-apart v c.in-Some.b bytes c.self.invariant.coherent c.in-Some.ensures there q kept)))
 
 pub returns-clause-none : goal.returns-clause-none
 returns-clause-none g c = (
