@@ -3,8 +3,8 @@ use Rattle.std.proofs.Common.{◌≡◌, ℕ, ◌<◌, ◌≤◌, inl, inr, Bool
 use Rattle.std.specs.Prelude.{◌==◌, if◌then◌else◌, IsTrue, slice_set}
 use Rattle.std.proofs.lemmas.Bool.{cases_lt, eqb-true}
 use Rattle.std.proofs.lemmas.List.{get_or_past}
-use Rattle.qx_blockset.specs.Members.{Has, has}
-use Rattle.qx_alloc.specs.SpaceState.{SpaceState, IsConsistent, is_held, is_private_in, limit_in, none_of}
+use Rattle.qx_blockset.specs.Members.{Has, Members, has}
+use Rattle.qx_alloc.specs.SpaceState.{IsConsistent, SpaceState, is_held, is_private_in, limit_in, none_of, space_with, users_in}
 use Rattle.qx_alloc.proofs.SpaceSteps.{has-none, has-below}
 use Rattle.qx_blocks.specs.BlockState.{put}
 use Rattle.qx_blocks.specs.SlotWrites.{place-set}
@@ -110,3 +110,11 @@ private-shared s b q low shared =
       | true ↦ λ is. let same : q ≡ b = eqb-true q b is in sym (ap (is_private_in s) same ∙ shared)
       | false ↦ λ is. refl
     ] refl
+
+-- at first the working tree holds nothing alone
+pub space-clean : (first : ℕ) (held : Members) (b : ℕ) → is_private_in (space_with first held) b ≡ false
+space-clean first held b = shared (has (users_in first held) b) (has (none_of held) b) where
+  shared : (w n : Bool) → (w && not (n || w)) ≡ false
+  shared true true = refl
+  shared true false = refl
+  shared false n = refl

@@ -24,13 +24,12 @@ fn set_of(alloc: Global, members: &[u32]) -> Result<BlockSet, AllocError>
     Ok(set)
 }
 
-// A cache over a device of `len` bytes, where the trees hold blocks 4 and 5. Each byte from 0x3800 on is 9, where block 4 begins. These calls fail.
+// A cache over a device of `len` bytes 9, where the trees hold blocks 4 and 5. These calls fail.
 fn cache_over(alloc: Global, len: usize, failing: &[u64]) -> Result<Cache<MemHost>, Fail>
     requires { 0x5200 ≤ len }
     ensures { IfOk result (λ cache. cache.space.is_frozen ≡ false) }
 {
-    let mut bytes = vec![in alloc; 9; len]?;
-    bytes[..0x3800].fill(0);
+    let bytes = vec![in alloc; 9; len]?;
     let input = b"ab".to_vec(alloc)?;
     let moments = [20].to_vec(alloc)?;
     let host = MemHost::new(alloc, bytes, input, moments, failing.to_vec(alloc)?, 100)?;
