@@ -1,16 +1,14 @@
 -- What a cache means as blocks after each step.
-use Rattle.std.proofs.Common.{◌≡◌, ◌≢◌, ℕ, ◌+◌, ◌-◌, ◌<◌, ◌≤◌, ◌⊎◌, inl, inr, Bool, true, false, not, ◌&&◌, ◌||◌, List, [], ◌∷◌, length, Option, None, Some, refl, sym, ◌∙◌, ap, subst, arith}
-use Rattle.std.specs.Prelude.{◌==◌, if◌then◌else◌, IsTrue, IfSome, is_some, unwrap_or, replicate, slice_set, slice_range}
+use Rattle.std.proofs.Common.{◌≡◌, ◌≢◌, ℕ, ◌+◌, ◌-◌, ◌<◌, ◌≤◌, ◌⊎◌, inl, inr, Bool, true, false, not, ◌||◌, List, [], ◌∷◌, length, Option, None, Some, refl, sym, ◌∙◌, ap, subst, arith}
+use Rattle.std.specs.Prelude.{◌==◌, if◌then◌else◌, IsTrue, IfSome, is_some, unwrap_or, replicate}
 use Rattle.std.specs.Option.{option_or}
 use Rattle.std.proofs.lemmas.Bool.{cases_eq, eqb-true, eq-eqb}
 use Rattle.std.proofs.lemmas.List.{length-set}
 use Rattle.std.proofs.lemmas.List.Sums.{count_by-le-length}
 use Rattle.std.proofs.lemmas.List.FromFn.{length-range_with_len}
-use Rattle.std.specs.List.{range_with_len}
-use Rattle.std.specs.FinMap.{contains_key, get, insert, remove}
-use Rattle.qx_bytes.proofs.Puts.{range_put_same}
-use Rattle.qx_outside.specs.Trail.{History, after, wrote, bytes_of}
-use Rattle.qx_outside.specs.Calls.{Idles, Writes}
+use Rattle.std.specs.FinMap.{contains_key, get}
+use Rattle.qx_outside.specs.Trail.{History, bytes_of}
+use Rattle.qx_outside.specs.Calls.{Idles}
 use Rattle.qx_blockset.specs.Members.{has}
 use Rattle.qx_alloc.specs.SpaceState.{IsFree, free_in, is_held, is_private_in, limit_in}
 use Rattle.qx_alloc.specs.SpaceState as space

@@ -4,7 +4,7 @@ use Rattle.std.specs.Prelude.{IsTrue, IfSome, Option, Some}
 use Rattle.std.proofs.lemmas.Bool.{cases_lt}
 use Rattle.std.proofs.lemmas.List.{length-take}
 use Rattle.qx_bytes.proofs.Puts.{range_put_apart}
-use Rattle.qx_outside.specs.Trail.{History, after, wrote, bytes_of}
+use Rattle.qx_outside.specs.Trail.{History, wrote, bytes_of}
 use Rattle.qx_outside.specs.Calls.{Did, FailsToWrite, Writes}
 use Rattle.qx_cache.specs.CacheState.{block_place, device_block}
 

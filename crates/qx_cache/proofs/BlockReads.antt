@@ -1,13 +1,13 @@
 -- What reading a block leaves.
-use Rattle.std.proofs.Common.{◌≡◌, ℕ, ◌+◌, ◌≤◌, Bool, true, false, ◌||◌, List, [], ◌∷◌, length, Option, None, Some, refl, sym, ◌∙◌, ap, arith}
-use Rattle.std.specs.Prelude.{◌==◌, if◌then◌else◌, is_err, is_some, IfSome, OnErr, OnOk, Result, Ok, Err}
+use Rattle.std.proofs.Common.{◌≡◌, ℕ, ◌+◌, ◌≤◌, Bool, true, false, List, [], ◌∷◌, length, Option, None, Some, refl, sym, ap, arith}
+use Rattle.std.specs.Prelude.{if◌then◌else◌, is_err, is_some, IfSome, OnErr, OnOk, Result, Ok, Err}
 use Rattle.std.specs.Option.{option_map, option_or}
 use Rattle.std.specs.FinMap.{get}
 use Rattle.qx_outside.specs.Causes.{StaysWhereTold}
 use Rattle.qx_outside.specs.Trail.{History}
 use Rattle.qx_outside.specs.declared.event.Attachment.{Attachment}
 use Rattle.qx_cache.specs.CacheState.{CacheState, aside_of, change_of, is_kept, kept_with}
-use Rattle.qx_cache.specs.Calls.{Reads, after_read, reads_after}
+use Rattle.qx_cache.specs.Calls.{Reads}
 use Rattle.qx_cache.proofs.BlockMeanings.{chosen}
 use Rattle.qx_cache.proofs.CoherentSteps.{kept-one}
 

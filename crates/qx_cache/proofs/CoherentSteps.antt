@@ -1,24 +1,20 @@
 -- What each step leaves of a cache's coherence.
-use Rattle.std.proofs.Common.{◌≡◌, ◌≢◌, ℕ, ◌+◌, ◌<◌, ◌≤◌, Bool, true, false, not, ◌&&◌, ◌||◌, List, [], ◌∷◌, length, Option, None, Some, refl, sym, ◌∙◌, ap, subst, arith}
-use Rattle.std.specs.Prelude.{◌==◌, if◌then◌else◌, IsTrue, IfSome, is_some, replicate, slice_set}
-use Rattle.std.specs.List.{filter}
+use Rattle.std.proofs.Common.{◌≡◌, ◌≢◌, ℕ, ◌<◌, ◌≤◌, Bool, true, false, not, ◌&&◌, ◌||◌, List, [], ◌∷◌, length, Option, None, Some, refl, sym, ◌∙◌, ap, subst, arith}
+use Rattle.std.specs.Prelude.{◌==◌, if◌then◌else◌, IsTrue, is_some, replicate, slice_set}
 use Rattle.std.proofs.lemmas.Bool.{eqb-true, eq-eqb}
 use Rattle.std.proofs.lemmas.List.{length-set, length-replicate}
 use Rattle.std.proofs.lemmas.List.Sums.{length-filter, count_by-le-length}
 use Rattle.std.specs.Ordering.{nat_cmp}
 use Rattle.std.specs.FinMap.{FinMap, contains_key, empty, get, get-empty, insert, remove}
 use Rattle.qx_outside.specs.Causes.{StaysWhereTold}
-use Rattle.qx_outside.specs.Trail.{History, bytes_of}
 use Rattle.qx_outside.proofs.ToldLengths.{told_after}
-use Rattle.qx_patch.specs.PatchState.{IsLeast, PatchState}
-use Rattle.qx_blockset.specs.Members.{Has, has}
+use Rattle.qx_blockset.specs.Members.{has}
 use Rattle.qx_alloc.specs.SpaceState.{SpaceState, IsConsistent, IsFree, is_held, is_private_in, limit_in, none_of}
 use Rattle.qx_alloc.specs.SpaceState as space
 use Rattle.qx_alloc.proofs.SpaceSteps.{has-none, has-below}
 use Rattle.qx_blocks.specs.BlockState.{IsBlockSize, put}
 use Rattle.qx_blocks.specs.SlotWrites.{put-same}
-use Rattle.qx_cache.specs.CacheState.{CacheState, device_block, edited_in, is_kept, kept_but, kept_with, refit, with_frozen, with_host, with_released, with_taken, with_thawed, with_written}
-use Rattle.qx_cache.specs.CacheView.{IsInOrder}
+use Rattle.qx_cache.specs.CacheState.{CacheState, is_kept, kept_but, with_frozen, with_host, with_released, with_taken, with_thawed, with_written}
 use Rattle.qx_cache.specs.Coherence.{HasRoom, IsCoherent}
 use Rattle.qx_cache.specs.ChangedKeys.{get-gone, get-put, there-gone, there-put}
 use Rattle.qx_cache.proofs.Spaces.{held-user, private-alone, private-set, private-shared, private-works, unheld-parts, works-set}
@@ -255,7 +251,7 @@ module _ {H : Type 0} {extent : H → Option ℕ} where
     space = consistent;
     private_changed = λ q. k.private_changed q
         ∙ alike (has c.space.working q) (has c.space.frozen q) (has c.space.durable q) (has (none_of c.space.frozen) q) (has-none c.space.frozen q) (k.shared frozen q);
-    frozen_changed = λ q there. absurd (cc (there, ap (λ m. contains_key m q) written, ap is_some (get-empty {X = List ℕ} nat_cmp q)));
+    frozen_changed = λ q there. absurd (cc (there, written, ap is_some (get-empty {X = List ℕ} nat_cmp q)));
     unfrozen = λ _. written;
     shared = λ is. absurd (cc is);
     long = k.long;

@@ -1,8 +1,8 @@
 -- What writing a block of the frozen tree leaves.
-use Rattle.std.proofs.Common.{◌≡◌, ◌≢◌, ℕ, ◌+◌, ◌<◌, ◌≤◌, ◌⊎◌, Bool, true, false, ◌&&◌, ◌||◌, not, List, length, Option, None, Some, refl, sym, ◌∙◌, ap, subst, arith}
+use Rattle.std.proofs.Common.{◌≡◌, ◌≢◌, ℕ, ◌+◌, ◌≤◌, ◌⊎◌, Bool, true, false, ◌&&◌, ◌||◌, not, List, length, Option, None, Some, refl, sym, ◌∙◌, ap, subst, arith}
 use Rattle.std.specs.Prelude.{IsTrue, IfSome, is_some, slice_range}
 use Rattle.std.specs.Option.{option_or}
-use Rattle.std.specs.FinMap.{contains_key, get}
+use Rattle.std.specs.FinMap.{get}
 use Rattle.qx_bytes.specs.Ranges.{put_at}
 use Rattle.qx_bytes.proofs.Puts.{range_put_same}
 use Rattle.qx_outside.specs.Trail.{History, wrote, bytes_of}
@@ -10,7 +10,7 @@ use Rattle.qx_outside.specs.Calls.{Did, Writes}
 use Rattle.qx_outside.proofs.ToldLengths.{told_weaker}
 use Rattle.qx_patch.specs.PatchState.{IsLeast}
 use Rattle.qx_blockset.specs.Members.{has}
-use Rattle.qx_alloc.specs.SpaceState.{is_held, is_private_in, limit_in}
+use Rattle.qx_alloc.specs.SpaceState.{is_held, limit_in}
 use Rattle.qx_cache.specs.CacheState.{CacheState, block_place, change_of, device_block, is_kept}
 use Rattle.qx_cache.specs.Calls.{IsNext}
 use Rattle.qx_cache.specs.Coherence.{IsCoherent}

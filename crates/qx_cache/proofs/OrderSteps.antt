@@ -1,8 +1,8 @@
 -- What each step leaves of the order of a cache's fields.
-use Rattle.std.proofs.Common.{◌≡◌, ◌≢◌, ℕ, ◌+◌, ◌<◌, ◌≤◌, ◌⊎◌, inl, inr, Bool, true, false, List, [], ◌∷◌, ◌++◌, length, drop, take, Option, None, Some, refl, sym, ◌∙◌, ap, subst, arith, length-append, length-drop}
+use Rattle.std.proofs.Common.{◌≡◌, ℕ, Bool, true, false, List, [], ◌∷◌, ◌++◌, length, drop, Option, None, Some, refl, sym, ◌∙◌, ap, subst, arith, length-append, length-drop}
 use Rattle.std.specs.Prelude.{IsTrue, is_some, unwrap_or}
 use Rattle.std.proofs.lemmas.List.{length-take}
-use Rattle.std.specs.FinMap.{contains_key, empty, get, insert, remove}
+use Rattle.std.specs.FinMap.{contains_key, empty, get}
 use Rattle.qx_outside.specs.Causes.{StaysWhereTold}
 use Rattle.qx_outside.specs.Trail.{History, bytes_of}
 use Rattle.qx_outside.specs.Calls.{Idles}
@@ -11,7 +11,7 @@ use Rattle.qx_patch.specs.PatchState as patch
 use Rattle.qx_blockset.specs.Members.{has}
 use Rattle.qx_alloc.specs.SpaceState.{SpaceState, IsConsistent, IsFree, is_held, is_private_in, limit_in}
 use Rattle.qx_alloc.specs.SpaceState as space
-use Rattle.qx_cache.specs.CacheState.{CacheState, device_block, edited_in, is_kept, kept_but, refit, with_frozen, with_host, with_released, with_taken, with_thawed, with_written}
+use Rattle.qx_cache.specs.CacheState.{CacheState, device_block, edited_in, is_kept, refit, with_frozen, with_host, with_released, with_taken, with_thawed, with_written}
 use Rattle.qx_blocks.specs.BlockState.{IsBlockSize}
 use Rattle.qx_cache.specs.CacheView.{cache_in, IsInOrder}
 use Rattle.qx_cache.specs.Coherence.{HasRoom}

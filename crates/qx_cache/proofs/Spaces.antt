@@ -1,11 +1,10 @@
 -- What the sets of three trees say of one block.
-use Rattle.std.proofs.Common.{◌≡◌, ℕ, ◌<◌, ◌≤◌, inl, inr, Bool, true, false, not, ◌&&◌, ◌||◌, length, get_or, refl, sym, ◌∙◌, ap, arith}
-use Rattle.std.specs.Prelude.{◌==◌, if◌then◌else◌, IsTrue, slice_set}
+use Rattle.std.proofs.Common.{◌≡◌, ℕ, ◌<◌, ◌≤◌, inl, inr, Bool, true, false, not, ◌&&◌, ◌||◌, refl, sym, ◌∙◌, ap, arith}
+use Rattle.std.specs.Prelude.{◌==◌, if◌then◌else◌, slice_set}
 use Rattle.std.proofs.lemmas.Bool.{cases_lt, eqb-true}
-use Rattle.std.proofs.lemmas.List.{get_or_past}
 use Rattle.qx_blockset.specs.Members.{Has, Members, has}
 use Rattle.qx_alloc.specs.SpaceState.{IsConsistent, SpaceState, is_held, is_private_in, limit_in, none_of, space_with, users_in}
-use Rattle.qx_alloc.proofs.SpaceSteps.{has-none, has-below}
+use Rattle.qx_alloc.proofs.SpaceSteps.{has-below}
 use Rattle.qx_blocks.specs.BlockState.{put}
 use Rattle.qx_blocks.specs.SlotWrites.{place-set}
 

@@ -1,5 +1,5 @@
 -- What one call on a cache does.
-use Rattle.std.specs.Prelude.{◌≡◌, ℕ, ◌+◌, ◌≤◌, ◌<◌, Bool, true, false, List, ◌⊎◌, length, IsTrue, is_some, Option, Some, None, if◌then◌else◌}
+use Rattle.std.specs.Prelude.{◌≡◌, ℕ, ◌+◌, ◌≤◌, ◌<◌, Bool, true, false, List, ◌⊎◌, length, IsTrue, is_some, Option, Some, if◌then◌else◌}
 use Rattle.std.specs.Option.{option_map}
 use Rattle.std.specs.FinMap.{get}
 use Rattle.qx_outside.specs.Causes.{StaysWhereTold}
@@ -8,7 +8,6 @@ use Rattle.qx_outside.specs.Calls.{Did, FailsToWrite, Idles}
 use Rattle.qx_patch.specs.PatchState.{IsLeast}
 use Rattle.qx_alloc.specs.SpaceState.{limit_in}
 use Rattle.qx_blockset.specs.Members.{has, Has}
-use Rattle.qx_blocks.specs.BlockState.{Holdings}
 use Rattle.qx_cache.specs.CacheState.{CacheState, block_place, bytes_over, change_of, is_kept, kept_with, state_of, with_host, with_written}
 
 -- the range lies outside the user blocks

@@ -1,4 +1,4 @@
-use Rattle.std.proofs.Common.{◌≡◌, true, refl, sym, ap, ◌∙◌}
+use Rattle.std.proofs.Common.{◌≡◌, true, sym, ap, ◌∙◌}
 use Rattle.std.specs.FinMap.{contains_key}
 use Rattle.qx_alloc.specs.SpaceState.{is_private_in}
 use Rattle.qx_cache.specs.CacheState.{kept_but}

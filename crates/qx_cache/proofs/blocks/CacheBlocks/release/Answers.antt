@@ -5,7 +5,7 @@ use Rattle.qx_alloc.specs.SpaceState.{free_in, is_private_in, IsConsistent}
 use Rattle.qx_alloc.specs.SpaceState as space
 use Rattle.qx_patch.specs.PatchState as patch
 use Rattle.qx_blocks.specs.BlockState.{without}
-use Rattle.qx_cache.specs.CacheState.{state_of, with_released}
+use Rattle.qx_cache.specs.CacheState.{state_of}
 use Rattle.qx_cache.specs.CacheView.{cache_in, IsInOrder}
 use Rattle.qx_cache.proofs.BlockMeanings.{state-released}
 use Rattle.qx_cache.proofs.OrderSteps.{order-released}

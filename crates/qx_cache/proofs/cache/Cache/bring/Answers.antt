@@ -1,4 +1,4 @@
-use Rattle.std.proofs.Common.{◌≡◌, ◌+◌, Some, length, length-append, length-drop, drop, take, ◌++◌, refl, sym, subst, ap, ◌∙◌, arith}
+use Rattle.std.proofs.Common.{◌≡◌, ◌+◌, Some, length, length-append, length-drop, drop, take, ◌++◌, sym, subst, ap, ◌∙◌, arith}
 use Rattle.std.specs.Prelude.{is_some, slice_range}
 use Rattle.std.proofs.lemmas.List.{length-take}
 use Rattle.qx_outside.specs.Trail.{bytes_of}

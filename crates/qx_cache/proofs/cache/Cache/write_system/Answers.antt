@@ -1,4 +1,4 @@
-use Rattle.std.proofs.Common.{◌≡◌, ℕ, ◌+◌, ◌≤◌, List, length, sym, subst}
+use Rattle.std.proofs.Common.{◌+◌, ◌≤◌, length, sym, subst}
 use Rattle.std.specs.Prelude.{IfSome}
 use Rattle.qx_cache.specs.CacheState.{with_host}
 use Rattle.qx_cache.specs.CacheView.{cache_in}
