@@ -6,17 +6,18 @@ use Rattle.std.proofs.lemmas.Bool.{cases_eq, eqb-true, eq-eqb}
 use Rattle.std.proofs.lemmas.List.{length-set}
 use Rattle.std.proofs.lemmas.List.Sums.{count_by-le-length}
 use Rattle.std.proofs.lemmas.List.FromFn.{length-range_with_len}
-use Rattle.std.specs.FinMap.{contains_key, get}
+use Rattle.std.specs.Ordering.{nat_cmp}
+use Rattle.std.specs.FinMap.{contains_key, get, get-empty}
 use Rattle.qx_outside.specs.Trail.{History, bytes_of}
 use Rattle.qx_outside.specs.Calls.{Idles}
 use Rattle.qx_blockset.specs.Members.{has}
 use Rattle.qx_alloc.specs.SpaceState.{IsFree, free_in, is_held, is_private_in, limit_in}
 use Rattle.qx_alloc.specs.SpaceState as space
-use Rattle.qx_alloc.proofs.SpaceSteps.{has-below}
+use Rattle.qx_alloc.proofs.SpaceSteps.{has-below, has-none}
 use Rattle.qx_blocks.specs.BlockState.{BlockState, IsConsistent, put, with_free, with_fresh, with_ready, with_shared, without}
 use Rattle.qx_blocks.specs.Calls.{Keeps, MakesReady}
 use Rattle.qx_blocks.specs.SlotWrites.{put-same}
-use Rattle.qx_cache.specs.CacheState.{CacheState, block_place, bytes_over, change_of, device_block, is_kept, kept_but, state_of, with_host, with_released, with_taken, with_written}
+use Rattle.qx_cache.specs.CacheState.{CacheState, block_place, bytes_over, change_of, device_block, is_kept, kept_but, state_of, with_frozen, with_host, with_released, with_taken, with_written}
 use Rattle.qx_cache.specs.Calls.{HasSameBlocks, IsOutsideUsers}
 use Rattle.qx_cache.specs.Coherence.{IsCoherent}
 use Rattle.qx_cache.specs.ChangedKeys.{get-gone, get-put, there-gone, there-put}
@@ -67,7 +68,26 @@ none_kept b (x ∷ kept) out =
       | false ↦ λ _. ap (λ xs. x ∷ xs) (none_kept b kept (λ is. out (later (b == x) (is_kept kept b) is)))
     ] refl
 
+-- a frozen tree that is the working one, where there was none, holds nothing more
+held_twice : (w f d : Bool) → f ≡ false → (w || w || d) ≡ (w || f || d)
+held_twice true false d is = refl
+held_twice false false d is = refl
+held_twice w true d is = absurd (cc is)
+
+-- nothing behind a change
+or_none : (o none : Option (List ℕ)) → none ≡ None → o ≡ option_or o none
+or_none None none is = sym is
+or_none (Some x) none is = refl
+
 module _ {H : Type 0} where
+  -- freezing the working tree leaves each block's bytes
+  pub bytes-frozen : {extent : H → Option ℕ} → (c : CacheState H) → IsCoherent extent c → c.space.is_frozen ≡ false → (device : List ℕ) (b : ℕ) → bytes_over device (with_frozen c) b ≡ bytes_over device c b
+  bytes-frozen c k unfrozen device b =
+      let out : has c.space.frozen b ≡ false = ap (λ s. has s b) (k.space.unfrozen unfrozen) ∙ has-none c.space.working b in
+      let none : get c.frozen_changes b ≡ None = ap (λ m. get m b) (k.unfrozen unfrozen) ∙ get-empty nat_cmp b in
+      (λ i. unwrap_or ((ap (λ o. option_or o (get c.changes b)) (get-empty nat_cmp b) ∙ or_none (get c.changes b) (get c.frozen_changes b) none) i)
+        (if held_twice (has c.space.working b) (has c.space.frozen b) (has c.space.durable b) out i then device_block device c.size b else []))
+
   -- a user block lies apart from what is outside the user blocks
   pub user-apart : (c : CacheState H) (at n b : ℕ) → IsOutsideUsers c at n → c.space.first_user ≤ b → b < limit_in c.space → (block_place c.size b + c.size ≤ at) ⊎ (at + n ≤ block_place c.size b)
   user-apart c at n b outside user below = elim outside [

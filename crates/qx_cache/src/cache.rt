@@ -1,5 +1,5 @@
 //! Blocks of a device, whose changes are kept in memory.
-ghost use Rattle.std.specs.Prelude.{◌≡◌, ◌+◌, ◌<◌, ◌≤◌, ◌^◌, ◌↔◌, ℕ, [], true, false, length, is_ok, is_some, IsTrue, IfOk, IfErr, IfSome, IfNone, OnOk, OnErr};
+ghost use Rattle.std.specs.Prelude.{◌≡◌, ◌+◌, ◌<◌, ◌≤◌, ◌^◌, ◌↔◌, ℕ, List, [], true, false, length, is_ok, is_some, IsTrue, IfOk, IfErr, IfSome, IfNone, OnOk, OnErr};
 ghost use Rattle.std.specs.FinMap.{empty};
 ghost use Rattle.qx_outside.specs.Causes.{HasCause};
 ghost use Rattle.qx_outside.specs.Trail.{Deed.{wrote, synced}, bytes_of};
@@ -156,6 +156,7 @@ impl<H: Dev> Cache<H> {
         requires { self.old.space.is_frozen ≡ false }
         ensures frozen { self.new ≡ with_frozen self.old }
         ensures changes { (b : ℕ) → change_of self.new b ≡ change_of self.old b }
+        ensures bytes { (device : List ℕ) (b : ℕ) → bytes_over device self.new b ≡ bytes_over device self.old b }
         ensures free { free_in self.new.space ≡ free_in self.old.space }
         ensures coherent { IsCoherent H.extent self.new }
     {
