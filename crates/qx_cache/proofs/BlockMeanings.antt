@@ -86,7 +86,7 @@ module _ {H : Type 0} where
       let out : has c.space.frozen b ≡ false = ap (λ s. has s b) (k.space.unfrozen unfrozen) ∙ has-none c.space.working b in
       let none : get c.frozen_changes b ≡ None = ap (λ m. get m b) (k.unfrozen unfrozen) ∙ get-empty nat_cmp b in
       (λ i. unwrap_or ((ap (λ o. option_or o (get c.changes b)) (get-empty nat_cmp b) ∙ or_none (get c.changes b) (get c.frozen_changes b) none) i)
-        (if held_twice (has c.space.working b) (has c.space.frozen b) (has c.space.durable b) out i then device_block device c.size b else []))
+      (if held_twice (has c.space.working b) (has c.space.frozen b) (has c.space.durable b) out i then device_block device c.size b else []))
 
   -- a user block lies apart from what is outside the user blocks
   pub user-apart : (c : CacheState H) (at n b : ℕ) → IsOutsideUsers c at n → c.space.first_user ≤ b → b < limit_in c.space → (block_place c.size b + c.size ≤ at) ⊎ (at + n ≤ block_place c.size b)
