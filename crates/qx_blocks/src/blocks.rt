@@ -1,5 +1,5 @@
 //! Blocks that are read, taken, written and given up by number.
-ghost use Rattle.std.specs.Prelude.{◌≡◌, ◌<◌, ℕ, List, false, length, IsTrue, IfOk, IfErr, OnOk, OnErr};
+ghost use Rattle.std.specs.Prelude.{◌≡◌, ◌<◌, ℕ, Bool, List, false, is_ok, length, IsTrue, IfOk, IfErr, OnOk, OnErr};
 ghost use Rattle.std.specs.Borrow.{sem, Lends, Array, u8 as byte};
 ghost use Rattle.std.specs.Io.BufRead.{Rests};
 ghost use Rattle.qx_blocks.specs.BlockState.{BlockState, IsConsistent, with_bytes, with_fresh, without};
@@ -43,6 +43,9 @@ pub trait Blocks {
     /// The blocks once block b was lent for writing and got these bytes.
     ghost edited: { Self → ℕ → List ℕ → Self };
 
+    /// What else a read of block b leaves of the implementer, before and after, by whether it is Ok: such as what it keeps in memory.
+    ghost read_leaves: { Self → ℕ → Bool → Self → Type 0 } = { λ _ _ _ _. Unit {0} };
+
     /// The bytes of a block. No call changes it.
     fn size(&self) -> usize
         ensures size { result ≡ (state self.now).holdings.size }
@@ -57,7 +60,8 @@ pub trait Blocks {
             Keeps (state self.old) (state new)
             × (aside new ≡ aside self.old)
             × HasStopCause (faults self.old) (faults new) result
-            × IfOk result (λ lent. IsTrue (state new).tells → lent.now ≡ (state self.old).bytes b))) };
+            × IfOk result (λ lent. IsTrue (state new).tells → lent.now ≡ (state self.old).bytes b)
+            × read_leaves self.old b (is_ok result) new)) };
 
     /// Takes a block that no tree holds. Its bytes are 0.
     fn fresh(&mut self) -> Result<u32, Stop>

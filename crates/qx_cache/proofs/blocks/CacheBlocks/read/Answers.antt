@@ -1,0 +1,45 @@
+use Rattle.std.proofs.Common.{◌≡◌, refl, sym, subst, ap, ◌∙◌}
+use Rattle.std.specs.Prelude.{IfSome}
+use Rattle.qx_outside.specs.Trail.{bytes_of}
+use Rattle.std.specs.FinMap.{get}
+use Rattle.qx_alloc.specs.SpaceState.{is_held}
+use Rattle.qx_blocks.specs.Calls.{Keeps}
+use Rattle.qx_cache.specs.CacheState.{aside_of, bytes_over, change_of, device_block, state_of}
+use Rattle.qx_cache.specs.Calls.{after_read}
+use Rattle.qx_cache.proofs.BlockMeanings.{keeps-read}
+use Rattle.qx_cache.proofs.BlockReads.{changed-bytes, same-aside}
+use Rattle.qx_cache.proofs.blocks.CacheBlocks.read.Goals as goal
+
+pub bring-requires : goal.bring-requires
+bring-requires g c = c.requires
+
+pub at_hand-requires-clause-held : goal.at_hand-requires-clause-held
+at_hand-requires-clause-held g c = ap (λ s. is_held s.space c.args.b) (c.in_ok-bring.ensures.reads.ok refl) ∙ c.requires
+
+pub returns : goal.returns
+returns g c =
+    let old = c.args.self.now in
+    let new = c.bring.new.self in
+    let whole : new ≡ after_read old new.host c.args.b = c.in_ok-bring.ensures.reads.ok refl in
+    let kept = (after_read old new.host c.args.b).kept in
+    let idles = c.in_ok-bring.ensures.reads.idles in (
+      (
+        refl,
+        λ _. tt,
+        (
+          subst (λ w. Keeps (state_of g.H.Dev.tells g.H.Dev.history old) (state_of g.H.Dev.tells g.H.Dev.history w)) (sym whole) (keeps-read g.H.Dev.tells g.H.Dev.history old new.host kept idles),
+          ap (aside_of g.H.Dev.attached g.H.Dev.con_faults) whole ∙ same-aside g.H.Dev.attached g.H.Dev.con_faults old new.host kept c.in_ok-bring.ensures.others.paths c.in_ok-bring.ensures.others.console,
+          record { later = c.in_ok-bring.ensures.cause.later; device = tt },
+          λ told. c.at_hand.ensures.told told
+              ∙ ap (λ w. bytes_over (bytes_of (g.H.Dev.history new.host)) w c.args.b) whole
+              ∙ ap (λ h. bytes_over (bytes_of h) old c.args.b) (idles.step told),
+          c.in_ok-bring.ensures.reads,
+        ),
+      ),
+      record {
+        long = c.at_hand.ensures.long ∙ ap (λ w. w.size) whole;
+        ready = λ ready. changed-bytes (get old.changes c.args.b) (get old.frozen_changes c.args.b) (is_held old.space c.args.b) (device_block (bytes_of (g.H.Dev.history old.host)) old.size c.args.b) c.at_hand.result.now ready
+            (subst (λ w. IfSome (change_of w c.args.b) (λ now. c.at_hand.result.now ≡ now)) whole c.at_hand.ensures.changed);
+        leaves = tt;
+      },
+    )

@@ -1,0 +1,64 @@
+-- What one call on a cache does.
+use Rattle.std.specs.Prelude.{◌≡◌, ℕ, ◌+◌, ◌≤◌, ◌<◌, Bool, true, false, List, ◌⊎◌, length, IsTrue, is_some, Option, Some, if◌then◌else◌}
+use Rattle.std.specs.Option.{option_map}
+use Rattle.std.specs.FinMap.{get}
+use Rattle.qx_outside.specs.Causes.{StaysWhereTold}
+use Rattle.qx_outside.specs.Trail.{History, wrote, bytes_of}
+use Rattle.qx_outside.specs.Calls.{Did, FailsToWrite, Idles}
+use Rattle.qx_patch.specs.PatchState.{IsLeast}
+use Rattle.qx_alloc.specs.SpaceState.{limit_in}
+use Rattle.qx_blockset.specs.Members.{has, Has}
+use Rattle.qx_cache.specs.CacheState.{CacheState, block_place, bytes_over, change_of, is_kept, kept_with, state_of, with_host, with_written}
+
+-- the range lies outside the user blocks
+abbrev pub IsOutsideUsers : {H : Type 0} → CacheState H → ℕ → ℕ → Type 0
+IsOutsideUsers c at n = (at + n ≤ block_place c.size c.space.first_user) ⊎ (block_place c.size (limit_in c.space) ≤ at)
+
+-- the cache once block b was read: a changed block is there, any other is kept then
+abbrev pub after_read : {H : Type 0} → CacheState H → H → ℕ → CacheState H
+after_read c host b = record c { host = host; kept = if is_some (change_of c b) then c.kept else kept_with c.kept b }
+
+-- how many device reads were Ok once block b was read: one more, unless it is changed or kept
+abbrev pub reads_after : {H : Type 0} → CacheState H → ℕ → Option ℕ → Option ℕ
+reads_after c b reads = if is_some (change_of c b) then reads else if is_kept c.kept b then reads else option_map (λ n. n + 1) reads
+
+-- block b was read, well or not: only the device and what is kept may differ, and the device was asked for no more than a read
+pub record Reads {H : Type 0} (tells : H → Bool) (history : H → History) (extent dev_reads : H → Option ℕ) (old : CacheState H) (b : ℕ) (good : Bool) (new : CacheState H) : Type 0 where
+  pub ok : IsTrue good → new ≡ after_read old new.host b
+  pub err : good ≡ false → new ≡ with_host old new.host
+  pub reads : IsTrue good → dev_reads new.host ≡ reads_after old b (dev_reads old.host)
+  pub reads_err : good ≡ false → dev_reads new.host ≡ dev_reads old.host
+  pub extent_same : StaysWhereTold (extent old.host) (extent new.host)
+  pub idles : Idles tells history old.host new.host
+
+-- the block that is written next: the least changed one of the frozen tree, which is never the durable tree's
+pub record IsNext {H : Type 0} (c : CacheState H) (block : ℕ) (bytes : List ℕ) : Type 0 where
+  pub least : IsLeast c.frozen_changes block
+  pub has_bytes : get c.frozen_changes block ≡ Some bytes
+  pub long : length bytes ≡ c.size
+  pub user : c.space.first_user ≤ block
+  pub below : block < limit_in c.space
+  pub frozen : Has c.space.frozen block
+  pub undurable : has c.space.durable block ≡ false
+
+module _ {H : Type 0} (tells : H → Bool) (history : H → History) where
+  -- the next block's bytes were put at its place, and it is changed no more
+  pub record WritesNext (old new : CacheState H) : Type 0 where
+    pub block : ℕ
+    pub bytes : List ℕ
+    pub next : IsNext old block bytes
+    pub did : Did tells history (wrote (block_place old.size block) bytes bytes true) old.host new.host
+    pub rest : new ≡ with_written old new.host block
+
+  -- that failed: anything may stand at its place, and it is changed as before
+  pub record FailsToWriteNext (old new : CacheState H) : Type 0 where
+    pub block : ℕ
+    pub bytes : List ℕ
+    pub next : IsNext old block bytes
+    pub failed : FailsToWrite tells history (block_place old.size block) bytes old.host new.host
+    pub rest : new ≡ with_host old new.host
+
+  -- each block is held as before, and has the bytes that it had, where they are told
+  pub record HasSameBlocks (old new : CacheState H) : Type 0 where
+    pub holdings : (state_of tells history new).holdings ≡ (state_of tells history old).holdings
+    pub bytes : IsTrue (tells new.host) → (b : ℕ) → bytes_over (bytes_of (history new.host)) new b ≡ bytes_over (bytes_of (history old.host)) old b
