@@ -26,7 +26,8 @@ use Rattle.qx_records.specs.declared.inode.Inode.{Inode}
 use Rattle.qx_records.specs.WrittenInode.{inode_bytes as bytes_of_inode}
 use Rattle.qx_view.specs.Images.{Roots, inode_bytes, inode_of, inode_places, raw_of}
 use Rattle.qx_view.specs.Walk.{inode_root, is_directory_inode}
-use Rattle.qx_view.specs.Sound.{are_zero, bad_long_name, bit_differs, fails_dots, fails_inodes, fails_nodes, has_bare_block, has_leaf_below, has_strays, is_foreign_directory, is_foreign_node, has_system_trees, is_same_root, is_short, is_special_inode, is_written_inode, must_be_set}
+use Rattle.qx_nodes.specs.ForeignNodes.{has_bare_block, has_leaf_below, has_strays, is_foreign_node}
+use Rattle.qx_view.specs.Sound.{are_zero, bad_long_name, bit_differs, fails_dots, fails_inodes, fails_nodes, is_foreign_directory, has_system_trees, is_same_root, is_short, is_special_inode, is_written_inode, must_be_set}
 use Rattle.qx_make.specs.Blocks.{is_taken, top_block, top_inode}
 use Rattle.qx_make.specs.NewVolume.{empty_root, new_roots}
 use Rattle.qx_make.proofs.NewBitmap.{bit_of, new_bit}

@@ -5,3 +5,4 @@ pub mod BlockMap
 pub mod Leaves
 pub mod Visits
 pub mod Content
+pub mod ForeignNodes

@@ -15,7 +15,7 @@ use Rattle.qx_nodes.proofs.DistinctPositions.{LiesUnder, visits_lie}
 use Rattle.qx_nodes.specs.BlockMap.{BlockMap, word}
 use Rattle.qx_nodes.specs.Leaves.{leaves_below}
 use Rattle.qx_nodes.specs.Visits.{Visit, is_leaf, visits_of, visits_under}
-use Rattle.qx_view.specs.Sound.{has_bare_block, has_leaf_below}
+use Rattle.qx_nodes.specs.ForeignNodes.{has_bare_block, has_leaf_below}
 use Rattle.qx_pointers.proofs.PointerVisits.{any_alike, block_at}
 use Rattle.qx_pointers.proofs.SeenParts.{any_more}
 use Rattle.qx_pointers.specs.Parts.{has_bare_under, leaf_at}

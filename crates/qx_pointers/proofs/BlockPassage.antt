@@ -10,7 +10,7 @@ use Rattle.qx_geom.specs.Lists.{each_below}
 use Rattle.qx_geom.specs.Pointer.{absent, per_block}
 use Rattle.qx_nodes.specs.BlockMap.{BlockMap, word}
 use Rattle.qx_nodes.specs.Visits.{Visit, is_leaf, visits_under}
-use Rattle.qx_view.specs.Sound.{is_stray_under}
+use Rattle.qx_nodes.specs.ForeignNodes.{is_stray_under}
 use Rattle.qx_view.specs.Walk.{Met, Test, Tested, visit_tests}
 use Rattle.qx_pointers.proofs.PassedTests.{goes_as, goes_fails, goes_for_memory, goes_then}
 use Rattle.qx_pointers.proofs.PointerVisits.{AreOf, Begins, Meets, are_of, begins, block_at, meets_absent, meets_block, meets_leaf, meets_stray, parts_of}

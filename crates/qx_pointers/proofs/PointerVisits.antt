@@ -11,7 +11,7 @@ use Rattle.qx_geom.specs.Lists.{each_below, parts_below}
 use Rattle.qx_geom.specs.Pointer.{absent, per_block}
 use Rattle.qx_nodes.specs.BlockMap.{BlockMap, word}
 use Rattle.qx_nodes.specs.Visits.{Visit, is_leaf, visits_under}
-use Rattle.qx_view.specs.Sound.{is_stray_under}
+use Rattle.qx_nodes.specs.ForeignNodes.{is_stray_under}
 use Rattle.qx_pointers.proofs.SeenParts.{any_more}
 use Rattle.qx_pointers.specs.Parts.{has_bare_under, leaf_at}
 use Rattle.qx_pointers.specs.Passage.{bare_beside, strays_beside, visits_beside}

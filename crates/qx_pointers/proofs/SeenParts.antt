@@ -14,7 +14,7 @@ use Rattle.qx_geom.specs.Lists.{each_below}
 use Rattle.qx_geom.specs.Pointer.{absent}
 use Rattle.qx_nodes.specs.BlockMap.{BlockMap}
 use Rattle.qx_nodes.specs.Visits.{Visit, is_leaf, visits_under}
-use Rattle.qx_view.specs.Sound.{is_stray_under}
+use Rattle.qx_nodes.specs.ForeignNodes.{is_stray_under}
 use Rattle.qx_view.specs.Walk.{Test, visit_tests}
 use Rattle.qx_pointers.proofs.PassedTests.{goes_as, goes_fails, goes_nowhere, goes_then}
 use Rattle.qx_pointers.specs.declared.halt.Halt.{Halt}

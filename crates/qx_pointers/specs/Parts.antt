@@ -8,7 +8,7 @@ use Rattle.qx_geom.specs.declared.root.Root.{Root}
 use Rattle.qx_nodes.specs.BlockMap.{BlockMap, word}
 use Rattle.qx_nodes.specs.Leaves.{leaves_below}
 use Rattle.qx_nodes.specs.Visits.{Visit, is_leaf, visits_of, visits_under}
-use Rattle.qx_view.specs.Sound.{has_strays, has_bare_block}
+use Rattle.qx_nodes.specs.ForeignNodes.{has_strays, has_bare_block}
 use Rattle.qx_pointers.specs.declared.node.LeafPlace.{LeafPlace}
 use Rattle.qx_pointers.specs.declared.node.Part.{Part}
 use Rattle.qx_pointers.specs.declared.source.Shape.{Shape}

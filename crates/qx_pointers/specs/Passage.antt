@@ -6,7 +6,7 @@ use Rattle.qx_geom.specs.Lists.{each_below, parts_below}
 use Rattle.qx_geom.specs.Pointer.{absent}
 use Rattle.qx_nodes.specs.BlockMap.{BlockMap}
 use Rattle.qx_nodes.specs.Visits.{Visit, visits_under}
-use Rattle.qx_view.specs.Sound.{is_stray_under}
+use Rattle.qx_nodes.specs.ForeignNodes.{is_stray_under}
 use Rattle.qx_view.specs.Walk.{visit_tests}
 use Rattle.qx_pointers.specs.declared.halt.Halt.{Halt}
 use Rattle.qx_pointers.specs.declared.node.LeafPlace.{LeafPlace}

@@ -4,7 +4,7 @@ ghost use Rattle.qx_blockset.specs.Members.{limit_of};
 ghost use Rattle.qx_geom.specs.Pointer.{per_block};
 ghost use Rattle.qx_nodes.specs.BlockMap.{BlockMap};
 ghost use Rattle.qx_nodes.specs.Visits.{visits_under};
-ghost use Rattle.qx_view.specs.Sound.{is_stray_under};
+ghost use Rattle.qx_nodes.specs.ForeignNodes.{is_stray_under};
 ghost use Rattle.qx_view.specs.Walk.{Test, Tested, Met};
 ghost use Rattle.qx_pointers.specs.declared.halt.Halt.TheVariants as halts;
 ghost use Rattle.qx_pointers.specs.Halts.{IsCaused};

@@ -22,7 +22,8 @@ use Rattle.qx_records.specs.NameRecord.{raw_in}
 use Rattle.qx_view.proofs.AlikeLists.{any_alike, below_members}
 use Rattle.qx_view.proofs.SystemTrees.{met_below, met_there}
 use Rattle.qx_view.specs.Images.{raw_of}
-use Rattle.qx_view.specs.Sound.{are_zero, has_bare_block, has_leaf_below, has_strays, has_tail, is_foreign_directory, is_foreign_node, is_stray_under}
+use Rattle.qx_nodes.specs.ForeignNodes.{has_bare_block, has_leaf_below, has_strays, is_foreign_node, is_stray_under}
+use Rattle.qx_view.specs.Sound.{are_zero, has_tail, is_foreign_directory}
 
 -- other bytes are the same in what a node meets, all of which are blocks
 pub record AgreesAt (m : BlockMap) (g : ℕ → List ℕ) (node : Root) : Type 0 where

@@ -23,7 +23,8 @@ use Rattle.qx_view.proofs.TreeLocality.{place_within, record_below}
 use Rattle.qx_view.proofs.WalkAlike.{directory_not_special, entered, in_walk, inodes_agrees, longfile_agrees, node_agrees, same_inode}
 use Rattle.qx_view.specs.Images.{Roots, inode_bytes, inode_places, raw_of}
 use Rattle.qx_view.specs.Reading.{IsHeld, IsTreeOf}
-use Rattle.qx_view.specs.Sound.{are_zero, bad_long_name, bit_differs, fails_dots, fails_inodes, fails_nodes, fails_tail, has_tail, is_foreign_directory, is_foreign_node, is_short, is_special_inode, is_special_kind, long_number, must_be_set, numbers_named}
+use Rattle.qx_nodes.specs.ForeignNodes.{is_foreign_node}
+use Rattle.qx_view.specs.Sound.{are_zero, bad_long_name, bit_differs, fails_dots, fails_inodes, fails_nodes, fails_tail, has_tail, is_foreign_directory, is_short, is_special_inode, is_special_kind, long_number, must_be_set, numbers_named}
 use Rattle.qx_view.specs.Walk.{inode_mode, inode_root, is_directory_inode, is_directory_kind, walked_inodes}
 
 -- where no number below a bound passes, each fails

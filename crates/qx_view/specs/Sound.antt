@@ -1,6 +1,6 @@
 -- The layout that this project writes: the reasons for which an image is foreign, what must be counted right, and the checker's verdict.
-use Rattle.std.specs.Prelude.{◌≡◌, ◌⊎◌, ℕ, zero, suc, ◌+◌, ◌*◌, ◌^◌, ◌/◌, ◌%◌, Bool, true, false, not, ◌&&◌, ◌||◌, List, [], ◌∷◌, drop, length, map, flat_map, filter, filter_map, count_by, bytes_eq, Option, Some, None, Result, Ok, Err, nat_le, nat_lt, ◌==◌, if◌then◌else◌, slice_get, slice_index, slice_index_or}
-use Rattle.std.specs.List.{list_any, list_all}
+use Rattle.std.specs.Prelude.{◌≡◌, ◌⊎◌, ℕ, zero, suc, ◌+◌, ◌*◌, ◌/◌, ◌%◌, Bool, true, false, not, ◌&&◌, ◌||◌, List, [], ◌∷◌, drop, length, map, flat_map, filter, filter_map, count_by, bytes_eq, Option, Some, None, Result, Ok, Err, nat_le, nat_lt, ◌==◌, if◌then◌else◌, slice_get, slice_index}
+use Rattle.std.specs.List.{list_all}
 use Rattle.std.specs.Int.{bit_at}
 use Rattle.qx_geom.specs.declared.area.Which.{Which}
 use Rattle.qx_geom.specs.declared.area.Which.TheVariants.{First, Second}
@@ -11,8 +11,8 @@ use Rattle.qx_geom.specs.Lists.{each_below, is_in, first_below}
 use Rattle.qx_geom.specs.Pointer.{absent, per_block}
 use Rattle.qx_geom.specs.Layout.{geometry_of, levels_for, level_count, system_pointer, system_root_of, tree_base, tree_leaves, user_blocks}
 use Rattle.qx_nodes.specs.BlockMap.{BlockMap, word}
-use Rattle.qx_nodes.specs.Leaves.{leaves_below}
-use Rattle.qx_nodes.specs.Visits.{Visit, visits_of, present_of}
+use Rattle.qx_nodes.specs.ForeignNodes.{is_foreign_node}
+use Rattle.qx_nodes.specs.Visits.{visits_of, present_of}
 use Rattle.qx_nodes.specs.Content.{leaf_bytes}
 use Rattle.qx_records.specs.declared.kind.Kind.{Kind}
 use Rattle.qx_records.specs.declared.kind.Kind.TheVariants as kinds
@@ -112,30 +112,7 @@ bit_differs m bitmap g blocks b = not (bitmap_bit m bitmap b == (if must_be_set 
 
 -- ---- reason 4: nodes
 
--- this pointer, or one below it, leads past the size and isn't absent
-abbrev pub is_stray_under : BlockMap → ℕ → ℕ → ℕ → ℕ → Bool
-is_stray_under m last zero index p = not (p == absent) && nat_le last index
-is_stray_under m last (suc l) index p =
-    not (p == absent) && (nat_le last (index * per_block m.size ^ suc l)
-    || list_any (λ w. is_stray_under m last l (index * per_block m.size + w) (word m p w)) (each_below (per_block m.size) (λ w. w)))
-
--- a node has such a pointer
-abbrev pub has_strays : BlockMap → Root → Bool
-has_strays m node = list_any (λ j. is_stray_under m (leaves_below m node) node.levels j (slice_index_or node.pointers j absent)) (each_below 16 (λ j. j))
-
--- a present leaf stands below this block
-abbrev pub has_leaf_below : BlockMap → List Visit → Visit → Bool
-has_leaf_below m visits v = list_any (λ u. (u.level == 0) && (u.index / per_block m.size ^ v.level == v.index)) visits
-
--- a node has a pointer block with no present leaf
-abbrev pub has_bare_block : BlockMap → Root → Bool
-has_bare_block m node = list_any (λ v. not (has_leaf_below m (visits_of m node) v)) (visits_of m node)
-
--- a node isn't as this project writes it
-abbrev pub is_foreign_node : BlockMap → Root → Bool
-is_foreign_node m node = not (node.levels == levels_for m.size (leaves_below m node)) || (has_strays m node || has_bare_block m node)
-
--- nor is a directory's: its size is 0 or no multiple of the block size, or it has a hole
+-- a directory isn't as this project writes it: its size is 0 or no multiple of the block size, or it has a hole
 abbrev pub is_foreign_directory : BlockMap → Root → Bool
 is_foreign_directory m node = (node.size == 0) || (not (node.size % m.size == 0) || not (length (present_of m node) == node.size / m.size))
 

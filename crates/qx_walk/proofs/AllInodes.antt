@@ -12,7 +12,8 @@ use Rattle.qx_records.specs.InodeRecord.{kind_of}
 use Rattle.qx_view.proofs.AlikeLists.{first_alike}
 use Rattle.qx_view.proofs.WalkEnds.{firsts, inodes}
 use Rattle.qx_view.specs.Images.{Roots, all_records, inode_places}
-use Rattle.qx_view.specs.Sound.{fails_dots, fails_nodes, fails_tail, has_tail, is_foreign_directory, is_foreign_node, is_special_inode, numbers_named, numbers_named_in}
+use Rattle.qx_nodes.specs.ForeignNodes.{is_foreign_node}
+use Rattle.qx_view.specs.Sound.{fails_dots, fails_nodes, fails_tail, has_tail, is_foreign_directory, is_special_inode, numbers_named, numbers_named_in}
 use Rattle.qx_view.specs.Walk.{Taken, finding_of, first_failing, inode_mode, inode_root, inode_tests, is_directory_inode, walked_inodes}
 use Rattle.qx_walk.proofs.Underway.{IsUnderway, fails_there, goes_on, inodes_append, listed_are, met_all, none_failed, starts, walked_are}
 use Rattle.qx_pointers.specs.declared.halt.Halt.{Halt}

@@ -8,7 +8,7 @@ use Rattle.qx_nodes.specs.BlockMap.{BlockMap}
 use Rattle.qx_nodes.specs.Content.{HasSize, levels_fit}
 use Rattle.qx_nodes.specs.Visits.{visits_of}
 use Rattle.qx_view.proofs.PassingTests.{NodePasses, node_passes}
-use Rattle.qx_view.specs.Sound.{is_foreign_node}
+use Rattle.qx_nodes.specs.ForeignNodes.{is_foreign_node}
 use Rattle.qx_walk.proofs.LastLeaf.{tail_is}
 use Rattle.qx_pointers.specs.declared.node.Part.{Part}
 use Rattle.qx_pointers.specs.declared.source.Shape.{Shape}

@@ -13,7 +13,8 @@ use Rattle.qx_nodes.specs.Visits.{visits_of}
 use Rattle.qx_geom.proofs.Truths.{and_left}
 use Rattle.qx_view.proofs.PassingTests.{NodePasses, Passing, node_passes, passing_parts, passing_tested}
 use Rattle.qx_view.specs.Images.{Roots, has_inode, inode_places}
-use Rattle.qx_view.specs.Sound.{fails_dots, fails_nodes, fails_tail, has_tail, is_foreign_node}
+use Rattle.qx_nodes.specs.ForeignNodes.{is_foreign_node}
+use Rattle.qx_view.specs.Sound.{fails_dots, fails_nodes, fails_tail, has_tail}
 use Rattle.qx_view.specs.Walk.{Test, Tested, finding_of, first_failing, inode_tests, is_directory_inode, root_tests, taken_of, top_tests}
 use Rattle.qx_pointers.proofs.PassedTests.{goes_fails, goes_then}
 use Rattle.qx_pointers.proofs.ShownBlocks.{rose_from}

@@ -6,7 +6,8 @@ use Rattle.qx_geom.specs.Lists.{is_in}
 use Rattle.qx_nodes.specs.BlockMap.{BlockMap}
 use Rattle.qx_nodes.specs.Content.{levels_fit}
 use Rattle.qx_view.specs.Images.{Roots, all_records}
-use Rattle.qx_view.specs.Sound.{are_zero, bad_long_name, has_tail, is_foreign_node, numbers_named_in}
+use Rattle.qx_nodes.specs.ForeignNodes.{is_foreign_node}
+use Rattle.qx_view.specs.Sound.{are_zero, bad_long_name, has_tail, numbers_named_in}
 use Rattle.qx_view.specs.Usage.{met_blocks}
 use Rattle.qx_view.specs.Walk.{Taken, Test, finding_of, first_failing, gone_through, inode_root, inode_tests, is_directory_inode, listed_after, named_inodes, new_ones, node_tests, root_tests, top_tests, walked_inodes}
 use Rattle.qx_pointers.specs.declared.halt.Halt.{Halt}

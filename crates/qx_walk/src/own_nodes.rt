@@ -3,7 +3,8 @@ ghost use Rattle.std.specs.Prelude.{◌≡◌, ◌<◌, ◌≤◌, ◌%◌, ℕ,
 ghost use Rattle.qx_blockset.specs.Members.{limit_of};
 ghost use Rattle.qx_geom.specs.Pointer.{ceil_div, reach};
 ghost use Rattle.qx_nodes.specs.BlockMap.{BlockMap};
-ghost use Rattle.qx_view.specs.Sound.{are_zero, is_foreign_directory as is_foreign_directory_node, is_foreign_node as is_foreign_root};
+ghost use Rattle.qx_nodes.specs.ForeignNodes.{is_foreign_node as is_foreign_root};
+ghost use Rattle.qx_view.specs.Sound.{are_zero, is_foreign_directory as is_foreign_directory_node};
 ghost use Rattle.qx_view.specs.Walk.{Finding};
 ghost use Rattle.qx_pointers.specs.Halts.{HaltsAt, IsCaused};
 ghost use Rattle.qx_walk.specs.Inodes.{WalksNode, tail_at};
