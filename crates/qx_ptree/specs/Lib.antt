@@ -1,0 +1,5 @@
+pub mod Trees
+pub mod Fates
+pub mod Alterations
+pub mod Parts
+pub mod Plans
