@@ -3,3 +3,9 @@ pub mod Fates
 pub mod Alterations
 pub mod Parts
 pub mod Plans
+pub mod WorkState
+pub mod WorkView
+pub mod PreparedView
+pub mod Takings
+pub mod Altered
+pub mod Building

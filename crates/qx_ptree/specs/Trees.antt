@@ -45,6 +45,13 @@ PathLeads order m (suc l) p i =
     let t = block_map order m in
     Leads m p × (¬ (p ≡ absent) → PathLeads order m l (word t p (i / per_block t.size ^ l % per_block t.size)) i)
 
+-- the blocks on the path to leaf i, from one that stands so many levels above the leaves on, are ready
+abbrev pub IsReadyPath : Order → BlockState → ℕ → ℕ → ℕ → Type 0
+IsReadyPath order m zero p i = IsTrue (m.holdings.ready p)
+IsReadyPath order m (suc l) p i =
+    let t = block_map order m in
+    IsTrue (m.holdings.ready p) × IsReadyPath order m l (word t p (i / per_block t.size ^ l % per_block t.size)) i
+
 -- ---- pointers by their position
 
 -- the pointer to block j of a level that stands so many levels below the node's own pointers

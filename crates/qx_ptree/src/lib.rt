@@ -1,4 +1,4 @@
-//! Pointer trees: where a node's leaves stand, and how many fresh blocks a change of the node takes.
+//! Pointer trees: where a node's leaves stand, and how a node changes without a write into a block of another tree.
 //!
 //! Stands on `qx_blocks` for blocks, on `qx_geom` for positions and on `qx_nodes` for what a node's pointers lead to; files and long names stand on it.
 //! Its contract: `leaf` answers the leaf of `qx_nodes/specs/Leaves.antt`, and `need` the count of `specs/Alterations.antt`.
@@ -6,15 +6,22 @@
 //! It never writes a block that another tree holds.
 #![tactic(auto)]
 
+mod building;
 mod change;
 mod fresh_blocks;
 mod leaf_path;
 mod part;
 mod pointers;
+mod prepared;
+mod ready_path;
+mod work;
 
+pub use building::prepare;
 pub use change::Change;
 pub use fresh_blocks::need;
 pub use leaf_path::leaf;
+pub use prepared::{Prepared, abandon, apart, commit};
+pub use ready_path::ready_leaf;
 
 #[cfg(test)]
 mod tests;
