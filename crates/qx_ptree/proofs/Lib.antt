@@ -1,0 +1,4 @@
+pub mod SumsBelow
+pub mod OwnPositions
+pub mod PartsOfBlocks
+pub mod FullParts
