@@ -1,4 +1,6 @@
 pub mod SumsBelow
 pub mod OwnPositions
 pub mod PartsOfBlocks
+pub mod LeafParts
+pub mod AlikeParts
 pub mod FullParts

@@ -71,7 +71,7 @@ count_one (x ∷ xs) j a = sum_by-cons (λ x. one_if (x == j)) x xs ∙ ap (λ n
     go false e = omega arith
 
 -- what is in a list that a test was put to
-in_filter-is : (test : ℕ → Bool) (xs : List ℕ) (j : ℕ) → is_in (filter test xs) j ≡ (is_in xs j && test j)
+pub in_filter-is : (test : ℕ → Bool) (xs : List ℕ) (j : ℕ) → is_in (filter test xs) j ≡ (is_in xs j && test j)
 in_filter-is test xs j =
     same_truth (is_in (filter test xs) j) (is_in xs j && test j)
     (λ h. let r = filter_in test xs j h in λ i. r.0 i && r.1 i)
