@@ -104,22 +104,20 @@ module _ (blocksize : ℕ) (old : Shape) (c : Change) (private : ℕ → ℕ →
       ∙ (λ i. with_block (has_position blocksize old (suc k) j) (private (suc k) j) (record { need = sum_up_to-none (per_block blocksize) i; changed = sym (below-up blocksize old.present k j some) i; present = any_up_to-none (per_block blocksize) i }))
 
   -- all are written where there was nothing, so all is fresh
-  alike-written : (k j : ℕ) → k ≤ (new_shape blocksize old c).levels → has_below blocksize old.present k j ≡ false → AllFare blocksize c Written k j
+  pub part-written : (k j : ℕ) → k ≤ (new_shape blocksize old c).levels → has_below blocksize old.present k j ≡ false → AllFare blocksize c Written k j
       → part_of (altered blocksize old c private) k j ≡ record { need = full_below (per_block blocksize) k; changed = true; present = true }
-  alike-written zero j le none all =
+  part-written zero j le none all =
       part-leaf blocksize old c private j up ∙ (λ i. leaf_part (fare-leaf blocksize c Written j all i) ((sym (below-leaf blocksize old.present j) ∙ none) i) (private 0 j))
-  alike-written (suc k) j le none all =
+  part-written (suc k) j le none all =
       up-once k j le (λ w. record { need = full_below (per_block blocksize) k; changed = true; present = true })
-      (λ w low. alike-written k (j * per_block blocksize + w) (omega arith)
+      (λ w low. part-written k (j * per_block blocksize + w) (omega arith)
         (any_up_to-at (per_block blocksize) (λ w. has_below blocksize old.present k (j * per_block blocksize + w)) w (sym (below-up blocksize old.present k j some) ∙ none) low) (fare-below blocksize c Written k j w low all))
       ∙ (λ i. with_block (had-none blocksize old (suc k) j none i) (private (suc k) j) (record { need = sum_same (per_block blocksize) (full_below (per_block blocksize) k) i; changed = any_same (per_block blocksize) some i; present = any_same (per_block blocksize) some i }))
 
-  -- where all fare alike and something may have been there
-  pub part-stays : (k j : ℕ) (had : Bool) → k ≤ (new_shape blocksize old c).levels → (k ≤ old.levels) ⊎ (had ≡ false) → had ≡ has_below blocksize old.present k j → AllFare blocksize c Stays k j
-      → part_of (altered blocksize old c private) k j ≡ record { need = 0; changed = false; present = had }
-  part-stays k j had le within is all =
+  -- where none is written, it is as with a leaf that was there or not; above the node's old levels none was
+  pub part-unwritten : (f : Fate) (k j : ℕ) (had p : Bool) → (f ≡ Written → ⊥) → k ≤ (new_shape blocksize old c).levels → (k ≤ old.levels) ⊎ (had ≡ false) → had ≡ has_below blocksize old.present k j → AllFare blocksize c f k j
+      → part_of (altered blocksize old c private) k j ≡ leaf_part f had p
+  part-unwritten Stays k j had p un le within is all =
       alike-stays k j le (subst (λ h. (k ≤ old.levels) ⊎ (h ≡ false)) is within) all ∙ ap (λ h. record { need = 0; changed = false; present = h }) (sym is)
-
-  pub part-goes : (k j : ℕ) (had : Bool) → k ≤ (new_shape blocksize old c).levels → had ≡ has_below blocksize old.present k j → AllFare blocksize c Goes k j
-      → part_of (altered blocksize old c private) k j ≡ record { need = 0; changed = had; present = false }
-  part-goes k j had le is all = alike-goes k j le all ∙ ap (λ h. record { need = 0; changed = h; present = false }) (sym is)
+  part-unwritten Written k j had p un le within is all = absurd (un refl)
+  part-unwritten Goes k j had p un le within is all = alike-goes k j le all ∙ ap (λ h. record { need = 0; changed = h; present = false }) (sym is)

@@ -3,4 +3,6 @@ pub mod OwnPositions
 pub mod PartsOfBlocks
 pub mod LeafParts
 pub mod AlikeParts
+pub mod WholeNeed
 pub mod FullParts
+pub mod PartBounds
