@@ -13,7 +13,7 @@ use Rattle.qx_ptree.specs.declared.change.Fate.TheVariants.{Stays, Written, Goes
 use Rattle.qx_ptree.specs.declared.part.Part.{Part}
 use Rattle.qx_ptree.specs.Fates.{fate_of, leaves_after, written_by}
 use Rattle.qx_ptree.specs.Parts.{beside, full_below, has_below, leaf_part, own_need, part_of, parts_up_to, with_block}
-use Rattle.qx_ptree.proofs.LeafParts.{altered, new_shape, part-leaf}
+use Rattle.qx_ptree.proofs.LeafParts.{altered, new-ascends, new_shape, part-leaf}
 use Rattle.qx_ptree.proofs.OwnPositions.{below-leaf, below-up, had-below, had-none}
 use Rattle.qx_ptree.proofs.PartsOfBlocks.{part-up, parts-alike, parts-are}
 use Rattle.qx_ptree.proofs.SumsBelow.{any_up_to, any_up_to-at, any_up_to-none, sum_up_to, sum_up_to-none}
@@ -71,7 +71,7 @@ module _ (blocksize : ℕ) (old : Shape) (c : Change) (private : ℕ → ℕ →
       → part_of (altered blocksize old c private) (suc k) j
         ≡ with_block (has_position blocksize old (suc k) j) (private (suc k) j) (record { need = sum_up_to (per_block blocksize) (λ w. (f w).need); changed = any_up_to (per_block blocksize) (λ w. (f w).changed); present = any_up_to (per_block blocksize) (λ w. (f w).present) })
   up-once k j le f same =
-      part-up (altered blocksize old c private) k j (present_after_ascends old.present (ceil_div c.size blocksize) (written_by c) c.gone up) some le
+      part-up (altered blocksize old c private) k j (new-ascends blocksize old c up) some le
       ∙ ap (with_block (has_position blocksize old (suc k) j) (private (suc k) j)) (parts-alike (per_block blocksize) (λ w. part_of (altered blocksize old c private) k (j * per_block blocksize + w)) f same ∙ parts-are (per_block blocksize) f)
 
   -- all stay, so nothing changes

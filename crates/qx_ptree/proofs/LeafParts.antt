@@ -69,6 +69,10 @@ unnamed-is : (o : Option ℕ) (i : ℕ) → is_named o i ≡ false → o ≡ Som
 unnamed-is None i h is = absurd (cc)
 unnamed-is (Some y) i h is = let e : y ≡ i = cc in true_or_false (i == y) (eq-eqb i y (sym e)) h
 
+-- the present leaves ascend
+pub new-ascends : (blocksize : ℕ) (old : Shape) (c : Change) → IsAscending old.present → IsAscending (new_shape blocksize old c).present
+new-ascends blocksize old c up = present_after_ascends old.present (ceil_div c.size blocksize) (written_by c) c.gone up
+
 module _ (blocksize : ℕ) (old : Shape) (c : Change) (i : ℕ) where
   -- a written leaf is present afterwards
   pub written-present : is_written c i ≡ true → is_in (new_shape blocksize old c).present i ≡ true
@@ -127,7 +131,7 @@ part-leaf blocksize old c private i up =
     ∙ by_fate (is_written c i) (is_gone (leaves_after blocksize c) c i) (is_in old.present i) (is_in (new_shape blocksize old c).present i) (private 0 i) (written-present blocksize old c i) (gone-absent blocksize old c i) (stays-present blocksize old c i)
   where
     fresh : fresh_below (altered blocksize old c private) 0 i ≡ own_need (has_position blocksize old 0 i) (private 0 i) (has_below blocksize (changed_leaves old (new_shape blocksize old c) (written_by c)) 0 i) (has_below blocksize (new_shape blocksize old c).present 0 i)
-    fresh = fresh-leaf (altered blocksize old c private) i (present_after_ascends old.present (ceil_div c.size blocksize) (written_by c) c.gone up)
+    fresh = fresh-leaf (altered blocksize old c private) i (new-ascends blocksize old c up)
 
     had : has_position blocksize old 0 i ≡ is_in old.present i
     had = had-below blocksize old 0 i (omega arith) ∙ below-leaf blocksize old.present i

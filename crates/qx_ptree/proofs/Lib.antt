@@ -6,3 +6,4 @@ pub mod AlikeParts
 pub mod WholeNeed
 pub mod FullParts
 pub mod PartBounds
+pub mod ReachedLeaves

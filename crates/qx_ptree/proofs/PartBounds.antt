@@ -90,6 +90,12 @@ leaf-few Stays had private = omega arith
 leaf-few Written had private = own-few had private true true
 leaf-few Goes had private = omega arith
 
+-- and one that isn't written takes none
+pub unwritten-none : (f : Fate) (had private : Bool) → (f ≡ Written → ⊥) → (leaf_part f had private).need ≡ 0
+unwritten-none Stays had private un = refl
+unwritten-none Written had private un = absurd (un refl)
+unwritten-none Goes had private un = refl
+
 -- one part more, where each takes fewer than 2 for each leaf
 pub few-more : (w need child K : ℕ) → need + w ≤ w * (2 * K) → child + 1 ≤ 2 * K → need + child + (w + 1) ≤ (w + 1) * (2 * K)
 few-more w need child K few one = omega (arith, few, one)

@@ -85,3 +85,26 @@ part-up a k j up some le =
       present = present i;
     })
     ∙ ap (with_block (has_position a.blocksize a.old (suc k) j) (a.private (suc k) j)) (sym (parts-are (per_block a.blocksize) (λ w. part_of a k (j * per_block a.blocksize + w))))
+
+-- ---- as a loop over the words of a block adds them up
+
+-- one word more
+pub part-more : (a : Alteration) (k index words w : ℕ) (so_far child both : Part) → words ≡ per_block a.blocksize → so_far ≡ parts_up_to w (λ v. part_of a k (index * per_block a.blocksize + v))
+    → child ≡ part_of a k (index * words + w) → both ≡ beside so_far child → both ≡ parts_up_to (w + 1) (λ v. part_of a k (index * per_block a.blocksize + v))
+part-more a k index words w so_far child both words_are is child_is both_is =
+    both_is
+    ∙ (λ i. beside (is i) ((child_is ∙ ap (λ n. part_of a k (index * n + w)) words_are) i))
+    ∙ sym (parts-more w (λ v. part_of a k (index * per_block a.blocksize + v)))
+
+-- all words, and the block itself
+pub part-done : (a : Alteration) (level index w own : ℕ) (had private : Bool) (so_far : Part) → IsAscending a.new.present → 0 < per_block a.blocksize → 0 < level → level ≤ a.new.levels
+    → w ≡ per_block a.blocksize → so_far ≡ parts_up_to w (λ v. part_of a (level - 1) (index * per_block a.blocksize + v))
+    → had ≡ has_position a.blocksize a.old level index → private ≡ a.private level index → own ≡ own_need had private so_far.changed so_far.present
+    → record so_far { need = so_far.need + own } ≡ part_of a level index
+part-done a zero index w own had private so_far up some above le all is had_is private_is own_is = absurd (omega arith)
+part-done a (suc k) index w own had private so_far up some above le all is had_is private_is own_is =
+    let down : suc k - 1 ≡ k = omega arith in
+    let parts : so_far ≡ parts_up_to (per_block a.blocksize) (λ v. part_of a k (index * per_block a.blocksize + v)) = is ∙ (λ i. parts_up_to (all i) (λ v. part_of a (down i) (index * per_block a.blocksize + v))) in
+    (λ i. record so_far { need = so_far.need + own_is i })
+    ∙ (λ i. with_block (had_is i) (private_is i) (parts i))
+    ∙ sym (part-up a k index up some le)

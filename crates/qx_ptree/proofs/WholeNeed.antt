@@ -1,8 +1,9 @@
 -- The need of a change is that of the 16 parts below the node's own pointers.
-use Rattle.std.proofs.Common.{◌≡◌, ℕ, zero, suc, ◌+◌, ◌-◌, ◌*◌, ◌/◌, ◌^◌, ◌<◌, ◌≤◌, inl, inr, List, refl, sym, ◌∙◌, ap, subst, arith}
+use Rattle.std.proofs.Common.{◌≡◌, ℕ, zero, suc, ◌+◌, ◌-◌, ◌*◌, ◌/◌, ◌^◌, ◌<◌, ◌≤◌, ◌⊎◌, inl, inr, List, refl, sym, ◌∙◌, ap, subst, arith}
 use Rattle.std.specs.Prelude.{Bool, true, false, ◌==◌, count_by, length}
 use Rattle.std.specs.Int.{div_ceil}
 use Rattle.std.proofs.Math.Nat.{div-div-eq-div-mul, div-lt_iff_lt-mul, mul-le-mul_right, one-le-pow, pow-le-pow_right, pow-suc}
+use Rattle.std.proofs.lemmas.Bool.{cases_lt}
 use Rattle.std.proofs.lemmas.Nat.{div_below, pow-add}
 use Rattle.qx_geom.proofs.ImagesAndFilters.{filter_in, image_any}
 use Rattle.qx_geom.proofs.LeastLevels.{levels_for-le, levels_for-reach}
@@ -16,12 +17,13 @@ use Rattle.qx_geom.specs.Pointer.{ceil_div, per_block, reach}
 use Rattle.qx_geom.specs.Positions.{Shape, at_level, index_above}
 use Rattle.qx_geom.specs.Touch.{is_fresh, need_of}
 use Rattle.qx_ptree.specs.declared.change.Change.{Change}
+use Rattle.qx_ptree.specs.declared.part.Part.{Part}
 use Rattle.qx_ptree.specs.Alterations.{Alteration, fresh_count}
 use Rattle.qx_ptree.specs.Fates.{IsChange, is_written, leaves_after, written_by}
 use Rattle.qx_ptree.specs.Parts.{fresh_positions, has_below, part_of}
 use Rattle.qx_ptree.proofs.LeafParts.{altered, in_written-is, new_shape}
 use Rattle.qx_ptree.proofs.PartsOfBlocks.{fresh-levels}
-use Rattle.qx_ptree.proofs.SumsBelow.{count_all, sum_by-below, sum_up_to, sum_up_to-alike, sum_up_to-turned}
+use Rattle.qx_ptree.proofs.SumsBelow.{count_all, sum_by-below, sum_up_to, sum_up_to-alike, sum_up_to-more, sum_up_to-turned}
 
 -- ---- the parts of the whole
 
@@ -50,6 +52,10 @@ whole-need a some reached =
     ∙ sum_up_to-turned (a.new.levels + 1) 16 (λ i j. count_by (λ x. index_above a.blocksize (a.new.levels - i) x == j) (fresh_positions a i))
     ∙ sum_up_to-alike 16 (λ j. sum_up_to (a.new.levels + 1) (λ i. count_by (λ x. index_above a.blocksize (a.new.levels - i) x == j) (fresh_positions a i))) (λ j. (part_of a a.new.levels j).need)
     (λ j low. sym (fresh-levels a a.new.levels j))
+
+-- one of them more
+pub need-more : (a : Alteration) (level need j sum : ℕ) (child : Part) → need ≡ sum_up_to j (λ v. (part_of a level v).need) → child ≡ part_of a level j → sum ≡ need + child.need → sum ≡ sum_up_to (j + 1) (λ v. (part_of a level v).need)
+need-more a level need j sum child is child_is sum_is = sum_is ∙ (λ i. is i + (child_is i).need) ∙ sym (sum_up_to-more j (λ v. (part_of a level v).need))
 
 -- ---- levels and leaves
 
@@ -92,3 +98,11 @@ none-beyond blocksize s k j wide reached above past = not_so (has_below blocksiz
     let none : i / P ^ k < 1 = div_below i (P ^ k) 1 (one-le-pow k P (omega arith)) (omega arith) in
     let is : i / P ^ k ≡ j = l.2 in
     omega arith)
+
+-- so whether something was below a block is known where it is known within the node's levels, and said to be nothing above them
+pub had-anywhere : (blocksize : ℕ) (s : Shape) (k j : ℕ) (had : Bool) → 16 ≤ per_block blocksize → ((i : ℕ) → is_in s.present i ≡ true → i < 16 * per_block blocksize ^ s.levels)
+    → (k ≤ s.levels → had ≡ has_below blocksize s.present k j) → (s.levels < k → (0 < j) × (had ≡ false)) → (had ≡ has_below blocksize s.present k j) × ((k ≤ s.levels) ⊎ (had ≡ false))
+had-anywhere blocksize s k j had wide reached within above = elim (cases_lt s.levels k) [
+  | inl lt ↦ let past = above lt in (past.1 ∙ sym (none-beyond blocksize s k j wide reached lt past.0), inr past.1)
+  | inr le ↦ (within le, inl le)
+]

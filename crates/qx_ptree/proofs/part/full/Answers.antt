@@ -1,5 +1,6 @@
 use Rattle.std.proofs.Common.{arith}
 use Rattle.qx_ptree.proofs.FullParts.{full-few, full-fits, full-more}
+use Rattle.qx_ptree.proofs.ReachedLeaves.{present-reached}
 use Rattle.qx_ptree.proofs.SumsBelow.{count_all}
 use Rattle.qx_ptree.proofs.OwnPositions.{own-fresh}
 use Rattle.qx_ptree.proofs.PartsOfBlocks.{part-up}
