@@ -1,18 +1,17 @@
 -- The part below a block whose leaves all have one fate.
 use Rattle.std.proofs.Common.{◌≡◌, ℕ, zero, suc, ◌+◌, ◌*◌, ◌^◌, ◌<◌, ◌≤◌, ◌⊎◌, inl, inr, refl, sym, ◌∙◌, ap, subst, arith, pow-suc}
-use Rattle.std.specs.Prelude.{Bool, true, false, not, ◌&&◌, ◌||◌, if◌then◌else◌}
+use Rattle.std.specs.Prelude.{Bool, true, false, ◌||◌}
 use Rattle.std.proofs.Math.Nat.{add-mul, mul-le-mul_right, mul_assoc, mul_comm, one-mul, pow-zero}
 use Rattle.std.proofs.Math.Numerals.{suc-eq-add-one}
-use Rattle.qx_geom.proofs.PresentLeaves.{present_after_ascends}
 use Rattle.qx_geom.specs.Lists.{IsAscending}
-use Rattle.qx_geom.specs.Pointer.{ceil_div, per_block}
+use Rattle.qx_geom.specs.Pointer.{per_block}
 use Rattle.qx_geom.specs.Positions.{Shape, has_position}
 use Rattle.qx_ptree.specs.declared.change.Change.{Change}
 use Rattle.qx_ptree.specs.declared.change.Fate.{Fate}
 use Rattle.qx_ptree.specs.declared.change.Fate.TheVariants.{Stays, Written, Goes}
 use Rattle.qx_ptree.specs.declared.part.Part.{Part}
-use Rattle.qx_ptree.specs.Fates.{fate_of, leaves_after, written_by}
-use Rattle.qx_ptree.specs.Parts.{beside, full_below, has_below, leaf_part, own_need, part_of, parts_up_to, with_block}
+use Rattle.qx_ptree.specs.Fates.{fate_of, leaves_after}
+use Rattle.qx_ptree.specs.Parts.{full_below, has_below, leaf_part, own_need, part_of, with_block}
 use Rattle.qx_ptree.proofs.LeafParts.{altered, new-ascends, new_shape, part-leaf}
 use Rattle.qx_ptree.proofs.OwnPositions.{below-leaf, below-up, had-below, had-none}
 use Rattle.qx_ptree.proofs.PartsOfBlocks.{part-up, parts-alike, parts-are}
@@ -69,7 +68,7 @@ module _ (blocksize : ℕ) (old : Shape) (c : Change) (private : ℕ → ℕ →
   -- the part below a block, a level up
   up-once : (k j : ℕ) → suc k ≤ (new_shape blocksize old c).levels → (f : ℕ → Part) → ((w : ℕ) → w < per_block blocksize → part_of (altered blocksize old c private) k (j * per_block blocksize + w) ≡ f w)
       → part_of (altered blocksize old c private) (suc k) j
-        ≡ with_block (has_position blocksize old (suc k) j) (private (suc k) j) (record { need = sum_up_to (per_block blocksize) (λ w. (f w).need); changed = any_up_to (per_block blocksize) (λ w. (f w).changed); present = any_up_to (per_block blocksize) (λ w. (f w).present) })
+      ≡ with_block (has_position blocksize old (suc k) j) (private (suc k) j) (record { need = sum_up_to (per_block blocksize) (λ w. (f w).need); changed = any_up_to (per_block blocksize) (λ w. (f w).changed); present = any_up_to (per_block blocksize) (λ w. (f w).present) })
   up-once k j le f same =
       part-up (altered blocksize old c private) k j (new-ascends blocksize old c up) some le
       ∙ ap (with_block (has_position blocksize old (suc k) j) (private (suc k) j)) (parts-alike (per_block blocksize) (λ w. part_of (altered blocksize old c private) k (j * per_block blocksize + w)) f same ∙ parts-are (per_block blocksize) f)
@@ -111,7 +110,7 @@ module _ (blocksize : ℕ) (old : Shape) (c : Change) (private : ℕ → ℕ →
   part-written (suc k) j le none all =
       up-once k j le (λ w. record { need = full_below (per_block blocksize) k; changed = true; present = true })
       (λ w low. part-written k (j * per_block blocksize + w) (omega arith)
-        (any_up_to-at (per_block blocksize) (λ w. has_below blocksize old.present k (j * per_block blocksize + w)) w (sym (below-up blocksize old.present k j some) ∙ none) low) (fare-below blocksize c Written k j w low all))
+      (any_up_to-at (per_block blocksize) (λ w. has_below blocksize old.present k (j * per_block blocksize + w)) w (sym (below-up blocksize old.present k j some) ∙ none) low) (fare-below blocksize c Written k j w low all))
       ∙ (λ i. with_block (had-none blocksize old (suc k) j none i) (private (suc k) j) (record { need = sum_same (per_block blocksize) (full_below (per_block blocksize) k) i; changed = any_same (per_block blocksize) some i; present = any_same (per_block blocksize) some i }))
 
   -- where none is written, it is as with a leaf that was there or not; above the node's old levels none was

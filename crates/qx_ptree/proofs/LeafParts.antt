@@ -1,22 +1,20 @@
 -- What a change makes of a leaf.
-use Rattle.std.proofs.Common.{◌≡◌, ℕ, zero, suc, ◌+◌, ◌<◌, ◌≤◌, inl, inr, List, [], ◌∷◌, ◌++◌, refl, sym, ◌∙◌, ap, arith}
+use Rattle.std.proofs.Common.{◌≡◌, ℕ, zero, suc, ◌+◌, ◌<◌, ◌≤◌, inl, inr, List, ◌++◌, refl, sym, ◌∙◌, ap, arith}
 use Rattle.std.specs.Prelude.{Bool, true, false, not, ◌&&◌, ◌||◌, ◌==◌, if◌then◌else◌, nat_eq, nat_le, nat_lt, Option, Some, None}
-use Rattle.std.specs.List.{list_any, range_with_len}
+use Rattle.std.specs.List.{range_with_len}
 use Rattle.std.specs.Option.{option_to_list}
 use Rattle.std.proofs.lemmas.Bool.{and_from, and_parts, cases_eq, eq-eqb, eqb-true, le-leb, leb-false, leb-true, lt-ltb, ltb-true, or_cases, or_parts}
 use Rattle.std.proofs.lemmas.List.Folds.{list_any-append}
-use Rattle.qx_geom.proofs.Members.{in_cases, in_head, in_tail}
+use Rattle.qx_geom.proofs.Members.{in_cases, in_tail}
 use Rattle.qx_geom.proofs.ImagesAndFilters.{in_head_as}
 use Rattle.qx_geom.proofs.PresentLeaves.{present_after_ascends, present_after_members}
 use Rattle.qx_geom.proofs.Truths.{not_so, true_or_false}
 use Rattle.qx_geom.specs.Lists.{IsAscending, is_in}
 use Rattle.qx_geom.specs.Pointer.{ceil_div}
-use Rattle.qx_geom.specs.Positions.{Shape, has_position, is_named, present_after, shape_after}
+use Rattle.qx_geom.specs.Positions.{Shape, has_position, is_named, shape_after}
 use Rattle.qx_geom.specs.Touch.{changed_leaves, leaves_without}
 use Rattle.qx_ptree.specs.declared.change.Change.{Change}
-use Rattle.qx_ptree.specs.declared.change.Fate.{Fate}
 use Rattle.qx_ptree.specs.declared.change.Fate.TheVariants.{Stays, Written, Goes}
-use Rattle.qx_ptree.specs.declared.part.Part.{Part}
 use Rattle.qx_ptree.specs.Alterations.{Alteration}
 use Rattle.qx_ptree.specs.Fates.{fate_of, is_gone, is_written, leaves_after, written_by}
 use Rattle.qx_ptree.specs.Parts.{fresh_below, has_below, leaf_part, own_need, part_of}

@@ -1,6 +1,6 @@
 -- The part of an altered node below a block is made of those below the blocks that it points to.
-use Rattle.std.proofs.Common.{◌≡◌, ℕ, zero, suc, ◌+◌, ◌-◌, ◌*◌, ◌<◌, ◌≤◌, List, refl, sym, ◌∙◌, ap, add-one, arith}
-use Rattle.std.specs.Prelude.{Bool, ◌||◌, ◌==◌, count_by}
+use Rattle.std.proofs.Common.{◌≡◌, ℕ, zero, suc, ◌+◌, ◌-◌, ◌*◌, ◌<◌, ◌≤◌, refl, sym, ◌∙◌, ap, add-one, arith}
+use Rattle.std.specs.Prelude.{Bool, ◌==◌, count_by}
 use Rattle.qx_geom.specs.Lists.{IsAscending}
 use Rattle.qx_geom.specs.Pointer.{per_block}
 use Rattle.qx_geom.specs.Positions.{has_position, index_above}
@@ -57,7 +57,7 @@ fresh-leaf a i up =
 -- those from a block on are those from the blocks that it points to, and its own
 pub fresh-up : (a : Alteration) (k j : ℕ) → IsAscending a.new.present → 0 < per_block a.blocksize → suc k ≤ a.new.levels
     → fresh_below a (suc k) j ≡ sum_up_to (per_block a.blocksize) (λ w. fresh_below a k (j * per_block a.blocksize + w))
-        + own_need (has_position a.blocksize a.old (suc k) j) (a.private (suc k) j) (has_below a.blocksize (changed_leaves a.old a.new a.written) (suc k) j) (has_below a.blocksize a.new.present (suc k) j)
+    + own_need (has_position a.blocksize a.old (suc k) j) (a.private (suc k) j) (has_below a.blocksize (changed_leaves a.old a.new a.written) (suc k) j) (has_below a.blocksize a.new.present (suc k) j)
 fresh-up a k j up some le =
     fresh-levels a (suc k) j
     ∙ sum_up_to-more (suc k) (λ i. count_by (λ x. index_above a.blocksize (suc k - i) x == j) (fresh_positions a i))

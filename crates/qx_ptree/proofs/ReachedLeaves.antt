@@ -1,5 +1,5 @@
 -- A node's present leaves lie below its own pointers.
-use Rattle.std.proofs.Common.{◌≡◌, ◌+◌, ℕ, ◌*◌, ◌/◌, ◌^◌, ◌<◌, ◌∙◌, sym, true, arith}
+use Rattle.std.proofs.Common.{◌≡◌, ℕ, ◌*◌, ◌/◌, ◌^◌, ◌<◌, ◌∙◌, sym, true, arith}
 use Rattle.std.specs.Prelude.{Contains, slice_index_or}
 use Rattle.std.proofs.Math.Nat.{div-lt_iff_lt-mul, one-le-pow}
 use Rattle.qx_geom.proofs.ImagesAndFilters.{Contains-in}

@@ -1,5 +1,5 @@
 -- Sums over the numbers below a bound, and whether one of them passes a test.
-use Rattle.std.proofs.Common.{◌≡◌, ℕ, zero, suc, ◌+◌, ◌*◌, ◌/◌, ◌%◌, ◌<◌, ◌≤◌, inl, inr, List, [], ◌∷◌, refl, sym, ◌∙◌, ap, subst, add-one, arith}
+use Rattle.std.proofs.Common.{◌≡◌, ℕ, zero, suc, ◌+◌, ◌*◌, ◌/◌, ◌%◌, ◌<◌, inl, inr, List, [], ◌∷◌, refl, sym, ◌∙◌, ap, subst, add-one, arith}
 use Rattle.std.specs.Prelude.{Bool, true, false, ◌||◌, ◌==◌, if◌then◌else◌, count_by, length, sum_by}
 use Rattle.std.specs.List.{list_any, range_with_len}
 use Rattle.std.proofs.lemmas.Bool.{cases_eq, cases_lt, eq-eqb, ne_eqb}
@@ -127,9 +127,10 @@ any_up_to-or (suc n) f g = ap (λ b. b || (f n || g n)) (any_up_to-or n f g) ∙
 
 -- none of the neighbours is the number
 none_is : (n base y : ℕ) → ((w : ℕ) → w < n → y ≡ base + w → ⊥) → (sum_up_to n (λ w. one_if (y == base + w)) ≡ 0) × (any_up_to n (λ w. y == base + w) ≡ false)
-none_is n base y apart =
-    (sum_up_to-alike n (λ w. one_if (y == base + w)) (λ w. 0) (λ w h. ap one_if (ne_eqb y (base + w) (apart w h))) ∙ sum_up_to-none n,
-    any_up_to-alike n (λ w. y == base + w) (λ w. false) (λ w h. ne_eqb y (base + w) (apart w h)) ∙ any_up_to-none n)
+none_is n base y apart = (
+  sum_up_to-alike n (λ w. one_if (y == base + w)) (λ w. 0) (λ w h. ap one_if (ne_eqb y (base + w) (apart w h))) ∙ sum_up_to-none n,
+  any_up_to-alike n (λ w. y == base + w) (λ w. false) (λ w h. ne_eqb y (base + w) (apart w h)) ∙ any_up_to-none n,
+)
 
 -- one of them is
 one_is : (n base y w : ℕ) → y ≡ base + w → w < n → (sum_up_to n (λ w. one_if (y == base + w)) ≡ 1) × (any_up_to n (λ w. y == base + w) ≡ true)

@@ -1,8 +1,8 @@
 -- The need of a change is that of the 16 parts below the node's own pointers.
-use Rattle.std.proofs.Common.{◌≡◌, ℕ, zero, suc, ◌+◌, ◌-◌, ◌*◌, ◌/◌, ◌^◌, ◌<◌, ◌≤◌, ◌⊎◌, inl, inr, List, refl, sym, ◌∙◌, ap, subst, arith}
+use Rattle.std.proofs.Common.{◌≡◌, ℕ, suc, ◌+◌, ◌-◌, ◌*◌, ◌/◌, ◌^◌, ◌<◌, ◌≤◌, ◌⊎◌, inl, inr, sym, ◌∙◌, ap, subst, arith}
 use Rattle.std.specs.Prelude.{Bool, true, false, ◌==◌, count_by, length}
 use Rattle.std.specs.Int.{div_ceil}
-use Rattle.std.proofs.Math.Nat.{div-div-eq-div-mul, div-lt_iff_lt-mul, mul-le-mul_right, one-le-pow, pow-le-pow_right, pow-suc}
+use Rattle.std.proofs.Math.Nat.{div-div-eq-div-mul, mul-le-mul_right, one-le-pow, pow-le-pow_right, pow-suc}
 use Rattle.std.proofs.lemmas.Bool.{cases_lt}
 use Rattle.std.proofs.lemmas.Nat.{div_below, pow-add}
 use Rattle.qx_geom.proofs.ImagesAndFilters.{filter_in, image_any}
@@ -19,9 +19,9 @@ use Rattle.qx_geom.specs.Touch.{is_fresh, need_of}
 use Rattle.qx_ptree.specs.declared.change.Change.{Change}
 use Rattle.qx_ptree.specs.declared.part.Part.{Part}
 use Rattle.qx_ptree.specs.Alterations.{Alteration, fresh_count}
-use Rattle.qx_ptree.specs.Fates.{IsChange, is_written, leaves_after, written_by}
+use Rattle.qx_ptree.specs.Fates.{IsChange, leaves_after, written_by}
 use Rattle.qx_ptree.specs.Parts.{fresh_positions, has_below, part_of}
-use Rattle.qx_ptree.proofs.LeafParts.{altered, in_written-is, new_shape}
+use Rattle.qx_ptree.proofs.LeafParts.{in_written-is, new_shape}
 use Rattle.qx_ptree.proofs.PartsOfBlocks.{fresh-levels}
 use Rattle.qx_ptree.proofs.SumsBelow.{count_all, sum_by-below, sum_up_to, sum_up_to-alike, sum_up_to-more, sum_up_to-turned}
 

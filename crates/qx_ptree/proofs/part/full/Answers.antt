@@ -1,13 +1,5 @@
 use Rattle.std.proofs.Common.{arith}
 use Rattle.qx_ptree.proofs.FullParts.{full-few, full-fits, full-more}
-use Rattle.qx_ptree.proofs.ReachedLeaves.{present-reached}
-use Rattle.qx_ptree.proofs.SumsBelow.{count_all}
-use Rattle.qx_ptree.proofs.OwnPositions.{own-fresh}
-use Rattle.qx_ptree.proofs.PartsOfBlocks.{part-up}
-use Rattle.qx_ptree.proofs.LeafParts.{part-leaf}
-use Rattle.qx_ptree.proofs.AlikeParts.{part-unwritten}
-use Rattle.qx_ptree.proofs.WholeNeed.{whole-need}
-use Rattle.qx_ptree.proofs.PartBounds.{few-all}
 use Rattle.qx_ptree.proofs.part.full.Goals as goal
 
 pub overflow_mul-blocks : goal.overflow_mul-blocks
