@@ -1,0 +1,2 @@
+pub mod PointerCounts
+pub mod WorkingPaths
