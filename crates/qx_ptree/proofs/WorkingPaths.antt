@@ -3,6 +3,7 @@ use Rattle.std.proofs.Common.{◌≡◌, ◌≢◌, ℕ, zero, suc, ◌+◌, ◌
 use Rattle.std.specs.Prelude.{◌||◌, ◌==◌, nat_lt, nat_le, if◌then◌else◌, Contains, slice_index_or, Option, Result, IfOk, IsTrue}
 use Rattle.std.proofs.Math.Nat.{mod-lt, add-mul, one-mul}
 use Rattle.std.proofs.Math.Numerals.{sub-one}
+use Rattle.std.proofs.lemmas.List.{get_or_default}
 use Rattle.std.proofs.lemmas.Nat.{div_below}
 use Rattle.std.proofs.lemmas.Result.{IfOk-weaker}
 use Rattle.std.proofs.lemmas.Bool.{ne_eqb, lt-ltb, lt-leb}
@@ -145,3 +146,14 @@ found_after order old mid new level p i next result first later above there low 
     h told ∙ ap (λ x. leaf_under (block_map order x) (level - 1) next i) (first.told mid_told)
     ∙ ap (λ q. leaf_under (block_map order old) (level - 1) q i) (is mid_told) ∙ sym (leaf_next (block_map order old) level p i above there low))
     below
+
+-- ---- the node's own pointers
+
+-- the pointer that is read first
+pub first_pointer : (m : BlockState) (node : Root) (i n k power : ℕ) → IsConsistent m → HasLevels m.holdings.size node → i < ceil_div node.size m.holdings.size → length node.pointers ≡ 16
+    → n ≡ m.holdings.size → k ≡ node.levels → power ≡ (n / 4) ^ k
+    → slice_index_or node.pointers (i / power) 0 ≡ slice_index_or node.pointers (i / per_block m.holdings.size ^ node.levels) absent
+first_pointer m node i n k power s levels below long size k_is power_is =
+    let power_of : power ≡ per_block m.holdings.size ^ node.levels = power_is ∙ (λ j. (size j / 4) ^ k_is j) in
+    ap (λ q. slice_index_or node.pointers (i / q) 0) power_of
+    ∙ get_or_default node.pointers (i / per_block m.holdings.size ^ node.levels) 0 absent (omega (arith, top_below m node i s levels below, long))
