@@ -1,2 +1,4 @@
 pub mod PointerCounts
 pub mod WorkingPaths
+pub mod PointersByPosition
+pub mod MetPositions
