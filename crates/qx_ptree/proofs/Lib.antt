@@ -1,4 +1,6 @@
 pub mod PointerCounts
 pub mod WorkingPaths
+pub mod ReadPointers
 pub mod PointersByPosition
 pub mod MetPositions
+pub mod PresentPositions

@@ -2,6 +2,7 @@
 ghost use Rattle.std.specs.Prelude.{◌≡◌, ◌<◌, ◌≤◌, ◌+◌, ◌-◌, ◌*◌, ◌==◌, ℕ, length, if◌then◌else◌, IfOk, OnOk, IsTrue, slice_index};
 ghost use Rattle.qx_geom.specs.Pointer.{absent, per_block};
 ghost use Rattle.qx_nodes.specs.BlockMap.{word};
+ghost use Rattle.qx_blocks.specs.BlockState.{IsConsistent};
 ghost use Rattle.qx_blocks.specs.Calls.{HasStopCause, Keeps};
 ghost use Rattle.qx_ptree.specs.Trees.{Leads, block_map};
 ghost use Rattle.qx_ptree.specs.Plans.{IsPlan, planned_pointer};
@@ -15,6 +16,7 @@ use qx_geom::ABSENT;
 pub(crate) fn leading<B: Blocks>(blocks: &B, pointer: u32) -> u32
     ensures works { ¬ (result ≡ absent) → IsTrue ((B.state blocks.now).holdings.works result) }
     ensures same { Leads (B.state blocks.now) pointer → result ≡ pointer }
+    ensures consistent { IsConsistent (B.state blocks.now) }
 {
     if blocks.works(pointer) {
         pointer
