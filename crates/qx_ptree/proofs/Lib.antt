@@ -4,3 +4,4 @@ pub mod ReadPointers
 pub mod PointersByPosition
 pub mod MetPositions
 pub mod PresentPositions
+pub mod PlannedPointers

@@ -27,7 +27,7 @@ use Rattle.qx_ptree.proofs.PointersByPosition.{leaf_up, pointer_past}
 -- where a test passes in a list, it does at a member
 any_member : {A : Type 0} (test : A → Bool) (xs : List A) → list_any test xs ≡ true → (x : A) × Contains xs x × (test x ≡ true)
 any_member test [] h = absurd (cc)
-any_member test (x ∷ xs) h = go (test x) refl h (any_member test xs)
+any_member {A = A} test (x ∷ xs) h = go (test x) refl h (any_member test xs)
   where
     go : (b : Bool) → test x ≡ b → (b || list_any test xs) ≡ true → (list_any test xs ≡ true → (y : A) × Contains xs y × (test y ≡ true)) → (y : A) × Contains (x ∷ xs) y × (test y ≡ true)
     go true e h more = (x, Contains-head x xs, e)
@@ -106,7 +106,7 @@ position_at m node k j w bare h = position_below m node k j h ∙ below_at m nod
 
 -- above the node's levels there is no position
 pub position_above : (m : BlockMap) (node : Root) (k j : ℕ) → node.levels < k → has_position m.size (shape_in m node) k j ≡ false
-position_above m node k j h = ap (λ b. is_in (if b then each_once (map (index_above m.size k) (present_of m node)) else []) j) (lt-leb node.levels k h)
+position_above m node k j h = ap (λ b. is_in (if b then each_once (map (index_above m.size k) (present_of m node)) else []) j) (lt-leb k node.levels h)
 
 -- ---- how far the leaves reach
 

@@ -63,6 +63,7 @@ pub(crate) fn pointers_below<B: Blocks>(
 ) -> Result<(), Stop>
     requires level { 0 < level }
     requires room { length into.old ≡ per_block (B.state blocks.old).holdings.size }
+    requires consistent { IsConsistent (B.state blocks.old) }
     requires plan { IsPlan (B.state blocks.old) plan.now }
     requires pointer { IsTrue (B.state blocks.old).tells → pointer ≡ planned_pointer plan.now (B.state blocks.old) level index }
     ensures long { length into.new ≡ length into.old }
@@ -88,6 +89,7 @@ pub(crate) fn top_pointers<B: Blocks>(
     plan: &Plan,
     level: u8,
 ) -> Result<[u32; 16], Stop>
+    requires consistent { IsConsistent (B.state blocks.old) }
     requires plan { IsPlan (B.state blocks.old) plan.now }
     ensures pointers { IfOk result (λ top. IsTrue (B.state blocks.new).tells → (j : ℕ) → j < 16
         → slice_index top j ≡ planned_pointer plan.now (B.state blocks.old) level j) }
