@@ -1,7 +1,8 @@
 -- The pointers of a plan's node: each leads to a block that the working tree holds, and stands where the node has a position.
-use Rattle.std.proofs.Common.{◌≡◌, ◌≢◌, ℕ, zero, suc, ◌+◌, ◌*◌, ◌-◌, ◌<◌, ◌≤◌, inl, inr, List, length, refl, sym, ◌∙◌, ap, subst, arith}
-use Rattle.std.specs.Prelude.{Bool, true, false, not, ◌||◌, ◌==◌, if◌then◌else◌, slice_index, slice_index_or, IsTrue}
+use Rattle.std.proofs.Common.{◌≡◌, ◌≢◌, ℕ, zero, suc, ◌+◌, ◌*◌, ◌-◌, ◌<◌, ◌≤◌, inl, inr, List, ◌++◌, drop, length, refl, sym, ◌∙◌, ap, subst, arith}
+use Rattle.std.specs.Prelude.{Bool, true, false, not, ◌||◌, ◌==◌, if◌then◌else◌, replicate, slice_index, slice_index_or, IsTrue}
 use Rattle.std.proofs.lemmas.Bool.{cases_eq, cases_lt}
+use Rattle.std.proofs.lemmas.List.{drop-replicate, get_or-append_right, get_or-replicate, get_or_append_left, get_or_default, get_or_past}
 use Rattle.qx_geom.specs.Pointer.{absent, per_block}
 use Rattle.qx_geom.specs.Positions.{has_position}
 use Rattle.qx_geom.proofs.Truths.{or_left, or_right}
@@ -9,6 +10,7 @@ use Rattle.qx_nodes.specs.BlockMap.{BlockMap, word}
 use Rattle.qx_nodes.specs.ForeignNodes.{has_bare_block, has_strays}
 use Rattle.qx_nodes.specs.Visits.{present_of}
 use Rattle.qx_blocks.specs.BlockState.{BlockState, IsConsistent}
+use Rattle.qx_blocks.specs.Calls.{Keeps}
 use Rattle.qx_ptree.specs.declared.fresh_blocks.Plan.{Plan}
 use Rattle.qx_ptree.specs.Parts.{has_below}
 use Rattle.qx_ptree.specs.Plans.{IsPlan, alteration_in, planned_pointer}
@@ -101,3 +103,39 @@ pub planned_down : (m : BlockState) (plan : Plan) (k w q : ℕ) → 0 < k → k 
 planned_down m plan k w q pos h low is =
     let at : 0 * per_block m.holdings.size + w ≡ w = omega arith in
     ap (λ x. if x == absent then absent else word (block_map plan.order m) x w) is ∙ sym (pointer_below (block_map plan.order m) plan.node k 0 w pos h low) ∙ ap (planned_pointer plan m (k - 1)) at
+
+-- the node's own pointers with absent ones behind them
+pub own_first : (pointers filled copied : List ℕ) (n w : ℕ) → length pointers ≡ 16 → copied ≡ pointers → filled ≡ replicate n absent → w < n → slice_index (copied ++ drop 16 filled) w ≡ slice_index_or pointers w absent
+own_first pointers filled copied n w long is fills low =
+    (λ i. slice_index (is i ++ drop 16 (fills i)) w) ∙
+    elim (cases_lt w 16) [
+      | inl h ↦ get_or_append_left pointers (drop 16 (replicate n absent)) 0 w (omega arith) ∙ get_or_default pointers w 0 absent (omega arith)
+      | inr h ↦
+          let behind : drop 16 (replicate n absent) ≡ replicate (n - 16) absent = drop-replicate 16 n absent in
+          get_or-append_right pointers (drop 16 (replicate n absent)) 16 w 0 long h ∙ ap (λ xs. slice_index xs (w - 16)) behind ∙ get_or-replicate (n - 16) (w - 16) absent 0 (omega arith)
+          ∙ sym (get_or_past pointers w absent (omega arith))
+    ]
+
+-- ---- down the first pointers of each level
+
+-- the node's own are those of its topmost level
+pub planned_top : (m : BlockState) (plan : Plan) (level j : ℕ) (pointers : List ℕ) → length plan.node.pointers ≡ 16 → pointers ≡ plan.node.pointers → j < 16
+    → slice_index pointers j ≡ planned_pointer plan m (plan.node.levels + level - level) j
+planned_top m plan level j pointers long is low =
+    let top : plan.node.levels + level - level ≡ plan.node.levels = omega arith in
+    ap (λ xs. slice_index xs j) is ∙ get_or_default plan.node.pointers j 0 absent (omega arith) ∙ sym (ap (λ k. planned_pointer plan m k j) top ∙ pointer_top (block_map plan.order m) plan.node j)
+
+-- a pointer leads to a block of the working tree, after a call that keeps the blocks as well
+pub leads_after : (old mid : BlockState) (plan : Plan) (k j q : ℕ) → IsConsistent old → length plan.node.pointers ≡ 16 → IsPlan old plan → Keeps old mid → q ≡ planned_pointer plan old k j → IsTrue mid.tells → Leads mid q
+leads_after old mid plan k j q s long met keeps is told =
+    let same : mid ≡ old = keeps.told told in
+    subst (λ x. Leads x q) (sym same) (subst (Leads old) (sym is) (planned_leads old plan k j (record { consistent = s; long = long; met = met; told = subst (λ x. IsTrue x.tells) same told })))
+
+-- one level further down
+pub down_after : (old mid : BlockState) (plan : Plan) (k l w q next : ℕ) {new : BlockState} → IsConsistent old → Keeps old mid → k ≡ l + 1 → k ≤ plan.node.levels → w < 16 → (IsTrue mid.tells → q ≡ planned_pointer plan old k 0)
+    → new ≡ mid → IsTrue new.tells → next ≡ (if q == absent then absent else word (block_map plan.order mid) q w) → next ≡ planned_pointer plan old l w
+down_after old mid plan k l w q next s keeps step h low is after told next_is =
+    let mid_told : IsTrue mid.tells = subst (λ x. IsTrue x.tells) after told in
+    let words : 128 ≤ per_block old.holdings.size = (words_bounds old.holdings.size s.size).0 in
+    let down : k - 1 ≡ l = omega arith in
+    next_is ∙ ap (λ x. if q == absent then absent else word (block_map plan.order x) q w) (keeps.told mid_told) ∙ planned_down old plan k w q (omega arith) h (omega arith) (is mid_told) ∙ ap (λ i. planned_pointer plan old i w) down

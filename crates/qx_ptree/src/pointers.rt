@@ -10,7 +10,7 @@ ghost use Rattle.qx_ptree.specs.Plans.{IsPlan, planned_pointer};
 use crate::fresh_blocks::Plan;
 use qx_blocks::{Blocks, Stop};
 use qx_fields::{Order, get32s};
-use qx_geom::ABSENT;
+use qx_geom::{ABSENT, Root};
 
 // Where bytes aren't told, a pointer to a block that the tree doesn't hold counts as absent.
 pub(crate) fn leading<B: Blocks>(blocks: &B, pointer: u32) -> u32
@@ -23,6 +23,14 @@ pub(crate) fn leading<B: Blocks>(blocks: &B, pointer: u32) -> u32
     } else {
         ABSENT
     }
+}
+
+// A node's own pointers, of which there are 16.
+pub(crate) fn own_pointers(node: Root) -> [u32; 16]
+    ensures own { result ≡ node.pointers }
+    ensures long { length node.pointers ≡ 16 }
+{
+    node.pointers
 }
 
 // Fills in the pointers of a pointer block from its first on, or absent ones where there is no block.
@@ -74,12 +82,13 @@ pub(crate) fn pointers_below<B: Blocks>(
     ensures aside { B.Blocks.aside blocks.new ≡ B.Blocks.aside blocks.old }
     ensures cause { HasStopCause (B.faults blocks.old) (B.faults blocks.new) result }
 {
+    let own = own_pointers(plan.node);
     if level != plan.node.levels + 1 || index != 0 {
         return read_pointers(blocks, plan.order, pointer, into);
     }
     // A level more takes the node's own pointers below its first block.
     into.fill(ABSENT);
-    into[0..16].copy_from_slice(&plan.node.pointers);
+    into[0..16].copy_from_slice(&own);
     Ok(())
 }
 
@@ -98,10 +107,10 @@ pub(crate) fn top_pointers<B: Blocks>(
     ensures aside { B.Blocks.aside blocks.new ≡ B.Blocks.aside blocks.old }
     ensures cause { HasStopCause (B.faults blocks.old) (B.faults blocks.new) result }
 {
+    let mut pointers = own_pointers(plan.node);
     if plan.node.levels < level {
         return Ok([ABSENT; 16]);
     }
-    let mut pointers = plan.node.pointers;
     for _ in level..plan.node.levels {
         let first = pointers[0];
         read_pointers(blocks, plan.order, first, &mut pointers)?;
