@@ -84,10 +84,10 @@ planned_step m plan k j w q s long pos low other is =
     elim (cases_lt plan.node.levels k) [
       | inr h ↦ sym (pointer_below t plan.node k j w pos h low)
       | inl above ↦ ap (λ x. if x == absent then absent else word t x w) (at_above t plan.node k j above) ∙ sym (elim (cases_eq k (plan.node.levels + 1)) [
-          | inl e ↦ let level : plan.node.levels ≡ k - 1 = omega arith in
-              subst (λ l. planned_pointer plan m l (j * per_block m.holdings.size + w) ≡ absent) level (none_beside t plan.node j w long (omega arith) (other e))
-          | inr ne ↦ at_above t plan.node (k - 1) (j * per_block m.holdings.size + w) (omega arith)
-        ])
+        | inl e ↦ let level : plan.node.levels ≡ k - 1 = omega arith in
+            subst (λ l. planned_pointer plan m l (j * per_block m.holdings.size + w) ≡ absent) level (none_beside t plan.node j w long (omega arith) (other e))
+        | inr ne ↦ at_above t plan.node (k - 1) (j * per_block m.holdings.size + w) (omega arith)
+      ])
     ]
 
 -- below that first block

@@ -1,4 +1,4 @@
-use Rattle.std.proofs.Common.{◌≡◌, ◌<◌, ◌^◌, ◌/◌, ◌-◌, ◌%◌, IsTrue, ap, arith, subst, sym, ◌∙◌}
+use Rattle.std.proofs.Common.{◌≡◌, ◌<◌, ◌^◌, ◌/◌, ◌-◌, ◌%◌, IsTrue, arith, subst, sym, ◌∙◌}
 use Rattle.qx_blocks.specs.BlockState.{BlockState}
 use Rattle.qx_geom.specs.Pointer.{per_block}
 use Rattle.qx_nodes.specs.BlockMap.{word}
@@ -22,8 +22,7 @@ leaf_below-requires g t c κs within =
     let mid : BlockState = g.B.Blocks.state c.read.follows.lender-at-none in
     let bytes = rw c.in_ok-bytes.was at c.read.follows.holds-at-none.3 in
     let is : IsTrue mid.tells → c.get32-next.result ≡ word (block_map c.args.order old) c.args.pointer (c.args.index / per_block old.holdings.size ^ (c.args.level - 1) % per_block old.holdings.size) = λ told.
-    read_word c.args.order old c.args.level c.args.pointer c.args.index c.get32-next.result c.size.result c.from.result c.pow.result c.in_ok-bytes.bytes.now c.size.ensures.size c.from.ensures c.pow.ensures (bytes told) c.get32-next.ensures in
-    (
+    read_word c.args.order old c.args.level c.args.pointer c.args.index c.get32-next.result c.size.result c.from.result c.pow.result c.in_ok-bytes.bytes.now c.size.ensures.size c.from.ensures c.pow.ensures (bytes told) c.get32-next.ensures in (
       omega (arith, c.decreases),
       (
         within,
@@ -41,6 +40,6 @@ returns-clause-found g t c =
     let bytes = rw c.in_ok-bytes.was at c.read.follows.holds-at-none.3 in
     let is : IsTrue mid.tells → c.get32-next.result ≡ word (block_map c.args.order old) c.args.pointer (c.args.index / per_block old.holdings.size ^ (c.args.level - 1) % per_block old.holdings.size) = λ told.
     read_word c.args.order old c.args.level c.args.pointer c.args.index c.get32-next.result c.size.result c.from.result c.pow.result c.in_ok-bytes.bytes.now c.size.ensures.size c.from.ensures c.pow.ensures (bytes told) c.get32-next.ensures in
-    let works : IsTrue (old.holdings.works c.args.pointer) = sym c.works.ensures.works ∙ c.if-not-works.false in
+    let works : IsTrue (old.holdings.works c.args.pointer) = cc (c.works.ensures.works, c.if-not-works.false) in
     found_after c.args.order old mid _ c.args.level c.args.pointer c.args.index c.get32-next.result c.leaf_below.result c.read.follows.holds-at-none.0 c.leaf_below.ensures.keeps
     c.if-level-eq0.false c.if-pointer-eq-ABSENT.false (works_below old c.args.pointer c.size.ensures.consistent works) is c.leaf_below.ensures.found

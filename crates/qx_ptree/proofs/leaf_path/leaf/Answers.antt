@@ -1,8 +1,7 @@
-use Rattle.std.proofs.Common.{rules, ◌≡◌, ◌<◌, ◌/◌, ◌^◌, IfOk, IsTrue, length, slice_index_or, subst, sym}
+use Rattle.std.proofs.Common.{rules, ◌≡◌, ◌<◌, ◌/◌, ◌^◌, length, slice_index_or, subst, sym}
 use Rattle.qx_blocks.specs.BlockState.{BlockState}
 use Rattle.qx_geom.specs.Pointer.{absent, per_block}
-use Rattle.qx_nodes.specs.Leaves.{leaf_under}
-use Rattle.qx_ptree.specs.Trees.{PathLeads, block_map, leaf_at}
+use Rattle.qx_ptree.specs.Trees.{PathLeads}
 use Rattle.qx_ptree.proofs.PointerCounts.{power_fits}
 use Rattle.qx_ptree.proofs.WorkingPaths.{first_pointer, node_leads}
 use Rattle.qx_ptree.proofs.leaf_path.leaf.Goals as goal

@@ -1,11 +1,7 @@
-use Rattle.std.proofs.Common.{rules, ◌≡◌, ◌≢◌, ◌+◌, ◌*◌, ◌-◌, ◌<◌, ◌≤◌, ℕ, inl, inr, IsTrue, OnOk, Result, Ok, Err, length, slice_index, arith, subst, sym, ◌∙◌}
-use Rattle.std.specs.Prelude.{◌==◌, if◌then◌else◌}
+use Rattle.std.proofs.Common.{◌≡◌, ◌≢◌, ◌+◌, ◌≤◌, inl, inr, IsTrue, length, arith, subst, sym, ◌∙◌}
 use Rattle.std.proofs.lemmas.Result.{on_ok_weaker}
 use Rattle.qx_geom.specs.Pointer.{absent, per_block}
-use Rattle.qx_nodes.specs.BlockMap.{word}
 use Rattle.qx_blocks.specs.BlockState.{BlockState}
-use Rattle.qx_ptree.specs.Plans.{planned_pointer}
-use Rattle.qx_ptree.specs.Trees.{block_map}
 use Rattle.qx_ptree.proofs.PlannedPointers.{own_first, planned_first, planned_leads, planned_step}
 use Rattle.qx_ptree.proofs.PointerCounts.{words_bounds}
 use Rattle.qx_ptree.proofs.pointers.pointers_below.Goals as goal

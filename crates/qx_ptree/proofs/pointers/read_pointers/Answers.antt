@@ -1,4 +1,4 @@
-use Rattle.std.proofs.Common.{◌≡◌, length}
+use Rattle.std.proofs.Common.{length}
 use Rattle.qx_blocks.specs.BlockState.{BlockState}
 use Rattle.qx_ptree.proofs.ReadPointers.{words_after}
 use Rattle.qx_ptree.proofs.pointers.read_pointers.Goals as goal

@@ -1,9 +1,6 @@
-use Rattle.std.proofs.Common.{rules, ◌≡◌, ◌≢◌, ◌+◌, ◌-◌, ◌<◌, ◌≤◌, ℕ, IsTrue, length, slice_index, ap, arith, subst, sym, ◌∙◌}
-use Rattle.std.proofs.lemmas.List.{get_or_default}
-use Rattle.qx_geom.specs.Pointer.{absent, per_block}
+use Rattle.std.proofs.Common.{rules, ◌≡◌, ◌+◌, ◌-◌, ◌≤◌, length, arith, subst, sym}
+use Rattle.qx_geom.specs.Pointer.{per_block}
 use Rattle.qx_blocks.specs.BlockState.{BlockState}
-use Rattle.qx_blocks.specs.Calls.{Keeps}
-use Rattle.qx_ptree.specs.Plans.{planned_pointer}
 use Rattle.qx_ptree.proofs.PlannedPointers.{down_after, leads_after, planned_top}
 use Rattle.qx_ptree.proofs.PointerCounts.{words_bounds}
 use Rattle.qx_ptree.proofs.pointers.top_pointers.Goals as goal

@@ -1,4 +1,4 @@
-use Rattle.std.proofs.Common.{◌≡◌, ◌<◌, ◌≤◌, ◌+◌, ◌-◌, ℕ, length, IsTrue, slice_index}
+use Rattle.std.proofs.Common.{◌≡◌, ◌<◌, ◌≤◌, ◌+◌, ◌-◌, ℕ, IsTrue, slice_index}
 use Rattle.qx_blocks.specs.Calls.{Keeps}
 use Rattle.qx_ptree.specs.Plans.{planned_pointer}
 use Rattle.qx_ptree.proofs.pointers.top_pointers.Given as goal
