@@ -14,3 +14,6 @@ pub mod PointersByPosition
 pub mod MetPositions
 pub mod PresentPositions
 pub mod PlannedPointers
+pub mod CommitSteps
+pub mod BuiltNodes
+pub mod CommittedBlocks
