@@ -17,3 +17,4 @@ pub mod PlannedPointers
 pub mod CommitSteps
 pub mod BuiltNodes
 pub mod CommittedBlocks
+pub mod NewPositions
