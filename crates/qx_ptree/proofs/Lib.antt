@@ -18,3 +18,4 @@ pub mod CommitSteps
 pub mod BuiltNodes
 pub mod CommittedBlocks
 pub mod NewPositions
+pub mod NewNodes
