@@ -19,3 +19,4 @@ pub mod BuiltNodes
 pub mod CommittedBlocks
 pub mod NewPositions
 pub mod NewNodes
+pub mod PreparedNodes
