@@ -1,10 +1,9 @@
 -- The blocks of a node for which a change was prepared: which stay, which are given up, which get other bytes, which are fresh.
 use Rattle.std.proofs.Common.{◌≡◌, ◌≢◌, ℕ, ◌+◌, ◌*◌, ◌-◌, ◌/◌, ◌^◌, ◌<◌, ◌≤◌, inl, inr, List, ◌++◌, length, refl, sym, ◌∙◌, ap, subst, arith}
-use Rattle.std.specs.Prelude.{Bool, true, false, not, ◌&&◌, ◌||◌, ◌==◌, if◌then◌else◌, IsTrue, Contains, slice_index}
+use Rattle.std.specs.Prelude.{Bool, true, false, not, ◌&&◌, ◌==◌, if◌then◌else◌, IsTrue, Contains, slice_index}
 use Rattle.std.proofs.Math.Nat.{div-div-eq-div-mul}
 use Rattle.std.proofs.lemmas.Bool.{cases_lt, eq-eqb}
 use Rattle.std.proofs.lemmas.Nat.{div_below, pow-add}
-use Rattle.qx_fields.specs.declared.order.Order.{Order}
 use Rattle.qx_geom.specs.declared.root.Root.{Root}
 use Rattle.qx_geom.specs.Lists.{is_in}
 use Rattle.qx_geom.specs.Pointer.{absent, per_block}
@@ -24,7 +23,7 @@ use Rattle.qx_ptree.specs.Building.{Builds, IsBlocksOf, IsOldPosition, LiesOutsi
 use Rattle.qx_ptree.specs.Plans.{alteration_in, planned_pointer}
 use Rattle.qx_ptree.specs.Takings.{Takes}
 use Rattle.qx_ptree.specs.Trees.{block_map}
-use Rattle.qx_ptree.specs.WorkState.{EditState, Preparation, WorkState, and_then, no_work}
+use Rattle.qx_ptree.specs.WorkState.{EditState, Preparation, WorkState, and_then, committed, no_work}
 use Rattle.qx_ptree.proofs.MetPositions.{pointer_met}
 use Rattle.qx_ptree.proofs.PlannedPointers.{IsToldPlan, planned_leads, planned_position, planned_whole}
 use Rattle.qx_ptree.proofs.PointerCounts.{power_positive, size_positive}
@@ -53,6 +52,10 @@ pub passes_second : (b c : Bool) → (if b then c else false) ≡ true → c ≡
 passes_second true c e = e
 passes_second false c e = absurd (cc)
 
+-- a position of the new node that takes no fresh block keeps its own
+pub stale-keeps : (a : Alteration) (k j : ℕ) → has_position a.blocksize a.new k j ≡ true → takes_fresh a k j ≡ false → keeps_block a k j ≡ true
+stale-keeps a k j there stale = λ t. there t && not (stale t)
+
 -- ---- what was prepared
 
 -- the 16 blocks to which a node's own pointers lead
@@ -63,7 +66,23 @@ own_row root = record { level = root.levels; first = 0; count = 16 }
 abbrev pub built : Plan → Root → List ℕ → WorkState → Preparation
 built plan root outside rest = record { node = plan.node; change = plan.change; root = root; work = and_then (with_released no_work outside) rest }
 
--- what is known of it where bytes are told
+-- a fresh block is one of the change's
+pub own-fresh-block : (outside : List ℕ) (rest : WorkState) (q : ℕ) → is_in rest.fresh q ≡ true → is_in (rest.fresh ++ (rest.kept ++ (outside ++ rest.released))) q ≡ true
+own-fresh-block outside rest q h = in_left rest.fresh (rest.kept ++ (outside ++ rest.released)) q h
+
+-- so is one that was made ready
+pub own-kept-block : (outside : List ℕ) (rest : WorkState) (q : ℕ) → is_in rest.kept q ≡ true → is_in (rest.fresh ++ (rest.kept ++ (outside ++ rest.released))) q ≡ true
+own-kept-block outside rest q h = in_right rest.fresh (rest.kept ++ (outside ++ rest.released)) q (in_left rest.kept (outside ++ rest.released) q h)
+
+-- the blocks after its commit
+abbrev pub blocks_after : Plan → Root → List ℕ → WorkState → BlockState → BlockState
+blocks_after plan root outside rest mid = committed mid (built plan root outside rest)
+
+-- the blocks that pointers spoke of before, with other bytes
+abbrev pub map_with : BlockState → Plan → (ℕ → List ℕ) → BlockMap
+map_with m plan bytes = with_bytes (block_map plan.order m) bytes
+
+-- what is known of the change where bytes are told
 pub record IsBuilt (m n : BlockState) (plan : Plan) (root : Root) (outside : List ℕ) (rest : WorkState) : Type 0 where
   pub told : IsToldPlan m plan
   pub after : IsConsistent n

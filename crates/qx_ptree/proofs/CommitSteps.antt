@@ -1,6 +1,6 @@
 -- What a commit leaves of each block: an edit changes the bytes of its block alone, and a block that isn't given up stays held as it was.
 use Rattle.std.proofs.Common.{◌≡◌, ℕ, arith, inl, inr, List, [], ◌∷◌, refl, sym, ◌∙◌, ap, subst}
-use Rattle.std.specs.Prelude.{Bool, true, false, ◌||◌, ◌==◌, nat_eq, if◌then◌else◌, IsTrue, Contains}
+use Rattle.std.specs.Prelude.{Bool, true, false, nat_eq, if◌then◌else◌, IsTrue, Contains}
 use Rattle.std.proofs.lemmas.Bool.{cases_eq, eq-eqb, ne_eqb}
 use Rattle.qx_geom.proofs.Members.{Contains-cases, Contains-cons, Contains-head, in_cases}
 use Rattle.qx_geom.proofs.Truths.{or_left, or_right, true_or_false}

@@ -1,29 +1,27 @@
 -- What a commit leaves of the blocks of a node for which a change was prepared.
-use Rattle.std.proofs.Common.{◌≡◌, ◌≢◌, ℕ, ◌-◌, ◌/◌, ◌^◌, ◌<◌, ◌≤◌, inl, inr, List, ◌++◌, refl, sym, ◌∙◌, ap, subst, arith}
-use Rattle.std.specs.Prelude.{Bool, true, false, not, ◌&&◌, ◌||◌, ◌==◌, nat_lt, if◌then◌else◌, IsTrue, Contains}
+use Rattle.std.proofs.Common.{◌≡◌, ◌≢◌, ℕ, ◌<◌, ◌≤◌, List, ◌++◌, refl, sym, ◌∙◌, ap, subst, arith}
+use Rattle.std.specs.Prelude.{true, false, not, ◌&&◌, ◌||◌, ◌==◌, nat_lt, IsTrue, Contains}
 use Rattle.std.specs.List.{list_any}
-use Rattle.std.proofs.lemmas.Bool.{cases_lt}
+use Rattle.std.proofs.lemmas.Bool.{or_right as or_second}
 use Rattle.qx_geom.specs.Lists.{is_in}
 use Rattle.qx_geom.specs.declared.root.Root.{Root}
-use Rattle.qx_geom.specs.Pointer.{absent, per_block}
+use Rattle.qx_geom.specs.Pointer.{absent}
 use Rattle.qx_geom.specs.Positions.{HasPosition, has_position, index_above}
 use Rattle.qx_geom.specs.Touch.{changed_leaves, is_touched, leaves_without}
 use Rattle.qx_geom.proofs.ImagesAndFilters.{any_image, in_filter}
 use Rattle.qx_geom.proofs.LeastTouch.{has_above, leaf_below}
-use Rattle.qx_geom.proofs.Members.{in_left, in_right}
-use Rattle.qx_geom.proofs.Truths.{not_so, or_right, true_or_false}
-use Rattle.qx_nodes.specs.Visits.{Visit, visits_of}
+use Rattle.qx_geom.proofs.Members.{in_right}
+use Rattle.qx_geom.proofs.Truths.{or_right, true_or_false}
+use Rattle.qx_nodes.specs.Visits.{Visit}
 use Rattle.qx_blocks.specs.BlockState.{BlockState}
 use Rattle.qx_ptree.specs.declared.fresh_blocks.Plan.{Plan}
 use Rattle.qx_ptree.specs.Alterations.{Alteration}
-use Rattle.qx_ptree.specs.Altered.{AsLeft, IsSameBlock, keeps_block, takes_fresh}
-use Rattle.qx_ptree.specs.Building.{LiesUnder, Shows, is_kept}
+use Rattle.qx_ptree.specs.Altered.{AsLeft, IsSameBlock, keeps_block}
+use Rattle.qx_ptree.specs.Building.{Shows, is_kept}
 use Rattle.qx_ptree.specs.Plans.{alteration_in, planned_pointer}
-use Rattle.qx_ptree.specs.Trees.{block_map}
-use Rattle.qx_ptree.specs.WorkState.{EditState, WorkState, committed}
-use Rattle.qx_ptree.proofs.BuiltNodes.{IsBuilt, built, edit-at, edit-fresh, edit-stays, fresh-stays, kept-old, kept-stays, kept-there, lost-released, new-under, old-bytes, old-visit, old-visits, old-works, own_row, passes_first, passes_second}
+use Rattle.qx_ptree.specs.WorkState.{EditState, WorkState}
+use Rattle.qx_ptree.proofs.BuiltNodes.{IsBuilt, blocks_after, built, edit-at, edit-fresh, edit-stays, fresh-stays, kept-old, kept-stays, kept-there, lost-released, new-under, old-bytes, old-visit, old-visits, old-works, own-fresh-block, own-kept-block, own_row, passes_first, passes_second}
 use Rattle.qx_ptree.proofs.CommitSteps.{committed-bytes, committed-edit, committed-gone, committed-ready, committed-works}
-use Rattle.qx_ptree.proofs.PlannedPointers.{planned_position}
 
 -- ---- untouched positions
 
@@ -53,77 +51,62 @@ untouched_keeps a k j level had still = λ t. untouched_stays a k j level had st
 
 module _ (m n : BlockState) (plan : Plan) (root : Root) (outside : List ℕ) (rest : WorkState) (b : IsBuilt m n plan root outside rest)
     (mid : BlockState) (left : AsLeft plan.order (built plan root outside rest) n mid) where
-  -- an old block that stays has its bytes, unless it stands above the leaves and is touched
+  -- an old block is as the change left it
+  old-same : (k j : ℕ) → planned_pointer plan m k j ≢ absent → IsSameBlock n mid (planned_pointer plan m k j)
+  old-same k j there =
+      let v : Visit = record { level = k; index = j; block = planned_pointer plan m k j } in
+      left.others v (subst (λ vs. Contains vs v) (old-visits m n plan root outside rest b) (old-visit m n plan root outside rest b k j there))
+
+  -- one that stays has its bytes, unless it stands above the leaves and is touched
   pub committed-old : (k j : ℕ) → keeps_block (alteration_in plan m) k j ≡ true → (is_kept (alteration_in plan m) k j ≡ true → 0 < k → ⊥)
-      → (committed mid (built plan root outside rest)).bytes (planned_pointer plan m k j) ≡ m.bytes (planned_pointer plan m k j)
+      → (blocks_after plan root outside rest mid).bytes (planned_pointer plan m k j) ≡ m.bytes (planned_pointer plan m k j)
   committed-old k j keeps apart =
       let there : planned_pointer plan m k j ≢ absent = kept-old m n plan root outside rest b k j keeps in
       committed-bytes mid (built plan root outside rest) (planned_pointer plan m k j) (kept-stays m n plan root outside rest b k j keeps)
       (λ e c is. let at : (is_kept (alteration_in plan m) k j ≡ true) × (0 < k) = edit-at m n plan root outside rest b e c k j there is in apart at.0 at.1)
-      ∙ (left.others (record { level = k; index = j; block = planned_pointer plan m k j }) (visited k j there)).bytes ∙ old-bytes m n plan root outside rest b k j there
-    where
-      visited : (k j : ℕ) → planned_pointer plan m k j ≢ absent → Contains (visits_of (block_map plan.order n) plan.node) (record { level = k; index = j; block = planned_pointer plan m k j })
-      visited k j there = subst (λ vs. Contains vs (record { level = k; index = j; block = planned_pointer plan m k j })) (old-visits m n plan root outside rest b) (old-visit m n plan root outside rest b k j there)
+      ∙ (old-same k j there).bytes ∙ old-bytes m n plan root outside rest b k j there
 
   -- the working tree holds it
-  pub committed-old-works : (k j : ℕ) → keeps_block (alteration_in plan m) k j ≡ true → IsTrue ((committed mid (built plan root outside rest)).holdings.works (planned_pointer plan m k j))
+  pub committed-old-works : (k j : ℕ) → keeps_block (alteration_in plan m) k j ≡ true → IsTrue ((blocks_after plan root outside rest mid).holdings.works (planned_pointer plan m k j))
   committed-old-works k j keeps =
       let q : ℕ = planned_pointer plan m k j in
       let there : q ≢ absent = kept-old m n plan root outside rest b k j keeps in
-      let v : Visit = record { level = k; index = j; block = q } in
-      let met : Contains (visits_of (block_map plan.order n) plan.node) v = subst (λ vs. Contains vs v) (old-visits m n plan root outside rest b) (old-visit m n plan root outside rest b k j there) in
       let before : n.holdings.works q ≡ true = b.takes.works q ∙ ap (λ t. t || is_in rest.fresh q) (old-works m n plan root outside rest b k j there) in
-      committed-works mid (built plan root outside rest) q (kept-stays m n plan root outside rest b k j keeps) ∙ (left.others v met).works ∙ before
+      committed-works mid (built plan root outside rest) q (kept-stays m n plan root outside rest b k j keeps) ∙ (old-same k j there).works ∙ before
 
-  -- where it is touched it is one of the change's, and ready
+  -- where it is touched it was made ready
   pub kept-own : (k j : ℕ) → is_kept (alteration_in plan m) k j ≡ true → is_in rest.kept (planned_pointer plan m k j) ≡ true
   kept-own k j kept =
       let a : Alteration = alteration_in plan m in
       let keeps : keeps_block a k j ≡ true = passes_first (keeps_block a k j) (is_touched a.blocksize a.old a.new a.written k j) kept in
       b.builds.kept k j (planned_pointer plan m k j) (record { under = new-under m n plan root outside rest b k j (kept-there m n plan root outside rest b k j keeps); pointer = refl; present = kept-old m n plan root outside rest b k j keeps }) kept
 
-  -- a block that is made ready is one of the change's
-  pub own-kept : (q : ℕ) → is_in rest.kept q ≡ true → is_in (rest.fresh ++ (rest.kept ++ (outside ++ rest.released))) q ≡ true
-  own-kept q h = in_right rest.fresh (rest.kept ++ (outside ++ rest.released)) q (in_left rest.kept (outside ++ rest.released) q h)
-
-  -- so is a fresh one
-  pub own-fresh-block : (q : ℕ) → is_in rest.fresh q ≡ true → is_in (rest.fresh ++ (rest.kept ++ (outside ++ rest.released))) q ≡ true
-  own-fresh-block q h = in_left rest.fresh (rest.kept ++ (outside ++ rest.released)) q h
-
-  -- a touched block that stays is ready
-  pub committed-kept-ready : (k j : ℕ) → is_kept (alteration_in plan m) k j ≡ true → IsTrue ((committed mid (built plan root outside rest)).holdings.ready (planned_pointer plan m k j))
+  -- and stays ready
+  pub committed-kept-ready : (k j : ℕ) → is_kept (alteration_in plan m) k j ≡ true → IsTrue ((blocks_after plan root outside rest mid).holdings.ready (planned_pointer plan m k j))
   committed-kept-ready k j kept =
       let a : Alteration = alteration_in plan m in
       let q : ℕ = planned_pointer plan m k j in
       let keeps : keeps_block a k j ≡ true = passes_first (keeps_block a k j) (is_touched a.blocksize a.old a.new a.written k j) kept in
-      committed-ready mid (built plan root outside rest) q (kept-stays m n plan root outside rest b k j keeps) ((left.own q (own-kept q (kept-own k j kept))).ready (b.ready q (kept-own k j kept)))
+      committed-ready mid (built plan root outside rest) q (kept-stays m n plan root outside rest b k j keeps) ((left.own q (own-kept-block outside rest q (kept-own k j kept))).ready (b.ready q (kept-own k j kept)))
 
   -- a fresh block has the bytes that it was given
-  pub committed-fresh : (q : ℕ) → is_in rest.fresh q ≡ true → (committed mid (built plan root outside rest)).bytes q ≡ n.bytes q
+  pub committed-fresh : (q : ℕ) → is_in rest.fresh q ≡ true → (blocks_after plan root outside rest mid).bytes q ≡ n.bytes q
   committed-fresh q f =
       committed-bytes mid (built plan root outside rest) q (fresh-stays m n plan root outside rest b q f)
-      (λ e c is. edit-fresh m n plan root outside rest b e c (subst (λ x. is_in rest.fresh x ≡ true) (sym is) f)) ∙ (left.own q (own-fresh-block q f)).bytes
+      (λ e c is. edit-fresh m n plan root outside rest b e c (subst (λ x. is_in rest.fresh x ≡ true) (sym is) f)) ∙ (left.own q (own-fresh-block outside rest q f)).bytes
 
   -- the working tree holds it
-  pub committed-fresh-works : (q : ℕ) → is_in rest.fresh q ≡ true → IsTrue ((committed mid (built plan root outside rest)).holdings.works q)
+  pub committed-fresh-works : (q : ℕ) → is_in rest.fresh q ≡ true → IsTrue ((blocks_after plan root outside rest mid).holdings.works q)
   committed-fresh-works q f =
-      committed-works mid (built plan root outside rest) q (fresh-stays m n plan root outside rest b q f) ∙ (left.own q (own-fresh-block q f)).works ∙ b.takes.works q ∙ either (m.holdings.works q) (is_in rest.fresh q) f
-    where
-      either : (x y : Bool) → y ≡ true → (x || y) ≡ true
-      either true y e = refl
-      either false y e = e
+      committed-works mid (built plan root outside rest) q (fresh-stays m n plan root outside rest b q f) ∙ (left.own q (own-fresh-block outside rest q f)).works ∙ b.takes.works q ∙ or_second (m.holdings.works q) (is_in rest.fresh q) f
 
   -- and it is ready
-  pub committed-fresh-ready : (q : ℕ) → is_in rest.fresh q ≡ true → IsTrue ((committed mid (built plan root outside rest)).holdings.ready q)
+  pub committed-fresh-ready : (q : ℕ) → is_in rest.fresh q ≡ true → IsTrue ((blocks_after plan root outside rest mid).holdings.ready q)
   committed-fresh-ready q f =
-      committed-ready mid (built plan root outside rest) q (fresh-stays m n plan root outside rest b q f) ((left.own q (own-fresh-block q f)).ready (b.takes.ready q (either (m.holdings.ready q) (is_in rest.fresh q) f)))
-    where
-      either : (x y : Bool) → y ≡ true → (x || y) ≡ true
-      either true y e = refl
-      either false y e = e
+      committed-ready mid (built plan root outside rest) q (fresh-stays m n plan root outside rest b q f) ((left.own q (own-fresh-block outside rest q f)).ready (b.takes.ready q (or_second (m.holdings.ready q) (is_in rest.fresh q) f)))
 
   -- what was prepared has come about
-  pub committed-shows : Shows m n plan rest (own_row root) (committed mid (built plan root outside rest)).bytes
+  pub committed-shows : Shows m n plan rest (own_row root) (blocks_after plan root outside rest mid).bytes
   committed-shows = record {
     fresh = committed-fresh;
     edits = λ e c. committed-edit mid (built plan root outside rest) e.block (edit-stays m n plan root outside rest b e c) e.bytes e (λ f d is. ap (λ (x : EditState). x.bytes) (b.builds.edit_once f e d c is)) c refl;
@@ -134,5 +117,5 @@ module _ (m n : BlockState) (plan : Plan) (root : Root) (outside : List ℕ) (re
   }
 
   -- a block that loses its position is the working tree's no more
-  pub committed-lost : (k j : ℕ) → planned_pointer plan m k j ≢ absent → keeps_block (alteration_in plan m) k j ≡ false → (committed mid (built plan root outside rest)).holdings.works (planned_pointer plan m k j) ≡ false
+  pub committed-lost : (k j : ℕ) → planned_pointer plan m k j ≢ absent → keeps_block (alteration_in plan m) k j ≡ false → (blocks_after plan root outside rest mid).holdings.works (planned_pointer plan m k j) ≡ false
   committed-lost k j there lost = committed-gone mid (built plan root outside rest) (planned_pointer plan m k j) (lost-released m n plan root outside rest b k j there lost)

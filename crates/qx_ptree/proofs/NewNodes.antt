@@ -1,8 +1,8 @@
 -- The node that a prepared change makes, once its bytes have come about: its present leaves, its blocks, and that it is as this project writes nodes.
-use Rattle.std.proofs.Common.{◌≡◌, ◌≢◌, ℕ, zero, suc, ◌+◌, ◌*◌, ◌-◌, ◌/◌, ◌^◌, ◌<◌, ◌≤◌, inl, inr, List, [], ◌∷◌, refl, sym, ◌∙◌, ap, subst, arith}
+use Rattle.std.proofs.Common.{◌≡◌, ◌≢◌, ℕ, zero, suc, ◌+◌, ◌*◌, ◌/◌, ◌^◌, ◌<◌, ◌≤◌, inl, inr, List, [], ◌∷◌, refl, sym, ◌∙◌, ap, subst, arith}
 use Rattle.std.specs.Prelude.{Bool, true, false, not, ◌&&◌, ◌||◌, ◌==◌, nat_le, if◌then◌else◌, Contains, map, slice_index_or}
 use Rattle.std.specs.List.{list_any, range_with_len}
-use Rattle.std.proofs.lemmas.Bool.{eq-eqb, eqb-true, lt-leb}
+use Rattle.std.proofs.lemmas.Bool.{eq-eqb, lt-leb}
 use Rattle.qx_geom.specs.declared.root.Root.{Root}
 use Rattle.qx_geom.specs.Layout.{levels_for}
 use Rattle.qx_geom.specs.Lists.{IsAscending, each_below, is_in}
@@ -12,10 +12,10 @@ use Rattle.qx_geom.proofs.ImagesAndFilters.{Contains-in, in_Contains}
 use Rattle.qx_geom.proofs.LeastTouch.{has_above, leaf_below}
 use Rattle.qx_geom.proofs.Members.{Contains-cases, Contains-cons, Contains-head}
 use Rattle.qx_geom.proofs.Truths.{true_or_false}
-use Rattle.qx_nodes.specs.BlockMap.{BlockMap, with_bytes, word}
+use Rattle.qx_nodes.specs.BlockMap.{BlockMap, word}
 use Rattle.qx_nodes.specs.Content.{bytes_at_leaf, leaf_bytes}
 use Rattle.qx_nodes.specs.ForeignNodes.{has_bare_block, has_leaf_below, has_strays, is_foreign_node, is_stray_under}
-use Rattle.qx_nodes.specs.Leaves.{Block, leaf_of, leaves_below}
+use Rattle.qx_nodes.specs.Leaves.{leaves_below}
 use Rattle.qx_nodes.specs.Visits.{Visit, present_of, visits_of}
 use Rattle.qx_nodes.proofs.LeafPaths.{begins_before}
 use Rattle.qx_nodes.proofs.MetLeaves.{leaf_member, leaf_visit, node_leaf_found, present_ascends}
@@ -26,7 +26,7 @@ use Rattle.qx_ptree.specs.Building.{Shows}
 use Rattle.qx_ptree.specs.Plans.{alteration_in, planned_pointer}
 use Rattle.qx_ptree.specs.Trees.{block_map, pointer_at}
 use Rattle.qx_ptree.specs.WorkState.{WorkState}
-use Rattle.qx_ptree.proofs.BuiltNodes.{IsBuilt, old-held, old-visit, own_row}
+use Rattle.qx_ptree.proofs.BuiltNodes.{IsBuilt, map_with, old-held, old-visit, own_row}
 use Rattle.qx_ptree.proofs.LeafParts.{new-ascends}
 use Rattle.qx_ptree.proofs.MetPositions.{IsAt, IsMetWhole, pointer_met, visit_at}
 use Rattle.qx_ptree.proofs.NewPositions.{new-apart, new-leads, new-number, new-there}
@@ -111,7 +111,7 @@ module _ (m n : BlockState) (plan : Plan) (root : Root) (outside : List ℕ) (re
   -- ---- no strays
 
   -- a leaf's pointer is none
-  leaf-plain : (index p : ℕ) → p ≡ pointer_at (with_bytes (block_map plan.order m) bytes) root 0 index → (t : Bool) → (p == absent) ≡ t → (not t && nat_le (ceil_div root.size m.holdings.size) index) ≡ false
+  leaf-plain : (index p : ℕ) → p ≡ pointer_at (map_with m plan bytes) root 0 index → (t : Bool) → (p == absent) ≡ t → (not t && nat_le (ceil_div root.size m.holdings.size) index) ≡ false
   leaf-plain index p is true e = refl
   leaf-plain index p is false e =
       let there : has_position m.holdings.size (alteration_in plan m).new 0 index ≡ true = new-there m n plan root outside rest b bytes shows 0 index (λ x. true_or_false (p == absent) (eq-eqb p absent (is ∙ x)) e) in
@@ -120,7 +120,7 @@ module _ (m n : BlockState) (plan : Plan) (root : Root) (outside : List ℕ) (re
       lt-leb (ceil_div root.size m.holdings.size) index (omega (arith, low, end))
 
   -- nor is a block's, or one below it
-  block-plain : (l index p : ℕ) (below : Bool) → p ≡ pointer_at (with_bytes (block_map plan.order m) bytes) root l index → (t : Bool) → (p == absent) ≡ t → (t ≡ false → below ≡ false)
+  block-plain : (l index p : ℕ) (below : Bool) → p ≡ pointer_at (map_with m plan bytes) root l index → (t : Bool) → (p == absent) ≡ t → (t ≡ false → below ≡ false)
       → (not t && (nat_le (ceil_div root.size m.holdings.size) (index * per_block m.holdings.size ^ l) || below)) ≡ false
   block-plain l index p below is true e none = refl
   block-plain l index p below is false e none =
@@ -128,10 +128,10 @@ module _ (m n : BlockState) (plan : Plan) (root : Root) (outside : List ℕ) (re
       λ i. lt-leb (ceil_div root.size m.holdings.size) (index * per_block m.holdings.size ^ l) (begins-below l index there) i || none refl i
 
   -- so none leads past the size
-  plain-under : (l index p : ℕ) → l ≤ root.levels → p ≡ pointer_at (with_bytes (block_map plan.order m) bytes) root l index → is_stray_under (with_bytes (block_map plan.order m) bytes) (ceil_div root.size m.holdings.size) l index p ≡ false
+  plain-under : (l index p : ℕ) → l ≤ root.levels → p ≡ pointer_at (map_with m plan bytes) root l index → is_stray_under (map_with m plan bytes) (ceil_div root.size m.holdings.size) l index p ≡ false
   plain-under zero index p level is = leaf-plain index p is (p == absent) refl
   plain-under (suc l) index p level is =
-      let t : BlockMap = with_bytes (block_map plan.order m) bytes in
+      let t : BlockMap = map_with m plan bytes in
       let P : ℕ = per_block m.holdings.size in
       let last : ℕ = ceil_div root.size m.holdings.size in
       block-plain (suc l) index p (list_any (λ w. is_stray_under t last l (index * P + w) (word t p w)) (each_below P (λ w. w))) is (p == absent) refl
@@ -140,23 +140,23 @@ module _ (m n : BlockState) (plan : Plan) (root : Root) (outside : List ℕ) (re
       (sym (pointer_step t root l index w level low ∙ ap (λ q. if q == absent then absent else word t q w) (sym is) ∙ ap (λ c. if c then absent else word t p w) e))))
 
   -- the node has no such pointer
-  pub new-plain : has_strays (with_bytes (block_map plan.order m) bytes) root ≡ false
+  pub new-plain : has_strays (map_with m plan bytes) root ≡ false
   new-plain =
-      let t : BlockMap = with_bytes (block_map plan.order m) bytes in
+      let t : BlockMap = map_with m plan bytes in
       none_passes (λ j. is_stray_under t (leaves_below t root) root.levels j (slice_index_or root.pointers j absent)) 16
       (λ j low. plain-under root.levels j (slice_index_or root.pointers j absent) (omega arith) (sym (pointer_top t root j)))
 
   -- ---- what is met
 
   -- a visit stands at a position of the new node
-  pub visit-there : (v : Visit) → Contains (visits_of (with_bytes (block_map plan.order m) bytes) root) v
-      → (v.block ≡ pointer_at (with_bytes (block_map plan.order m) bytes) root v.level v.index) × (has_position m.holdings.size (alteration_in plan m).new v.level v.index ≡ true)
+  pub visit-there : (v : Visit) → Contains (visits_of (map_with m plan bytes) root) v
+      → (v.block ≡ pointer_at (map_with m plan bytes) root v.level v.index) × (has_position m.holdings.size (alteration_in plan m).new v.level v.index ≡ true)
   visit-there v c =
-      let at : IsAt (with_bytes (block_map plan.order m) bytes) root v = visit_at (with_bytes (block_map plan.order m) bytes) root v c in
+      let at : IsAt (map_with m plan bytes) root v = visit_at (map_with m plan bytes) root v c in
       (at.block, new-there m n plan root outside rest b bytes shows v.level v.index (λ e. at.there (at.block ∙ e)))
 
   -- the new node is met as a whole
-  pub new-whole : IsMetWhole (with_bytes (block_map plan.order m) bytes) root
+  pub new-whole : IsMetWhole (map_with m plan bytes) root
   new-whole = record {
     words = words;
     long = b.long;
@@ -166,33 +166,33 @@ module _ (m n : BlockState) (plan : Plan) (root : Root) (outside : List ℕ) (re
 
   -- each position of it is met
   pub new-visit : (k j : ℕ) → k ≤ root.levels → has_position m.holdings.size (alteration_in plan m).new k j ≡ true
-      → Contains (visits_of (with_bytes (block_map plan.order m) bytes) root) (record { level = k; index = j; block = pointer_at (with_bytes (block_map plan.order m) bytes) root k j })
-  new-visit k j level there = pointer_met (with_bytes (block_map plan.order m) bytes) root k j new-whole level (new-leads m n plan root outside rest b bytes shows k j there)
+      → Contains (visits_of (map_with m plan bytes) root) (record { level = k; index = j; block = pointer_at (map_with m plan bytes) root k j })
+  new-visit k j level there = pointer_met (map_with m plan bytes) root k j new-whole level (new-leads m n plan root outside rest b bytes shows k j there)
 
   -- its present leaves are those that the change leaves
-  pub new-present : present_of (with_bytes (block_map plan.order m) bytes) root ≡ (alteration_in plan m).new.present
+  pub new-present : present_of (map_with m plan bytes) root ≡ (alteration_in plan m).new.present
   new-present =
-      let t : BlockMap = with_bytes (block_map plan.order m) bytes in
+      let t : BlockMap = map_with m plan bytes in
       same_members (present_of t root) (alteration_in plan m).new.present (present_ascends t root words)
       (new-ascends m.holdings.size (shape_in (block_map plan.order m) plan.node) plan.change (present_ascends (block_map plan.order m) plan.node words)) to from
     where
-      to : (i : ℕ) → Contains (present_of (with_bytes (block_map plan.order m) bytes) root) i → Contains (alteration_in plan m).new.present i
+      to : (i : ℕ) → Contains (present_of (map_with m plan bytes) root) i → Contains (alteration_in plan m).new.present i
       to i c =
-          let t : BlockMap = with_bytes (block_map plan.order m) bytes in
+          let t : BlockMap = map_with m plan bytes in
           let r : (v : Visit) × Contains (visits_of t root) v × (v.level ≡ 0) × (v.index ≡ i) = leaf_visit (visits_of t root) i c in
           let there : has_position m.holdings.size (alteration_in plan m).new 0 i ≡ true = sym (λ z. has_position m.holdings.size (alteration_in plan m).new (r.2 z) (r.3 z)) ∙ (visit-there r.0 r.1).1 in
           Contains-in (alteration_in plan m).new.present i (new-leaf i there)
 
-      from : (i : ℕ) → Contains (alteration_in plan m).new.present i → Contains (present_of (with_bytes (block_map plan.order m) bytes) root) i
+      from : (i : ℕ) → Contains (alteration_in plan m).new.present i → Contains (present_of (map_with m plan bytes) root) i
       from i c =
-          let t : BlockMap = with_bytes (block_map plan.order m) bytes in
+          let t : BlockMap = map_with m plan bytes in
           let v : Visit = record { level = 0; index = i; block = pointer_at t root 0 i } in
           leaf_member (visits_of t root) v (new-visit 0 i (omega arith) (leaf-there i (in_Contains (alteration_in plan m).new.present i c))) refl
 
   -- a present leaf stands below each block
-  leaf-under : (v : Visit) → Contains (visits_of (with_bytes (block_map plan.order m) bytes) root) v → has_leaf_below (with_bytes (block_map plan.order m) bytes) (visits_of (with_bytes (block_map plan.order m) bytes) root) v ≡ true
+  leaf-under : (v : Visit) → Contains (visits_of (map_with m plan bytes) root) v → has_leaf_below (map_with m plan bytes) (visits_of (map_with m plan bytes) root) v ≡ true
   leaf-under v c =
-      let t : BlockMap = with_bytes (block_map plan.order m) bytes in
+      let t : BlockMap = map_with m plan bytes in
       let P : ℕ = per_block m.holdings.size in
       let l : (v.level ≤ (alteration_in plan m).new.levels) × ((i : ℕ) × (is_in (alteration_in plan m).new.present i ≡ true) × (index_above m.holdings.size v.level i ≡ v.index)) =
       leaf_below m.holdings.size (alteration_in plan m).new v.level v.index (visit-there v c).1 in
@@ -201,19 +201,19 @@ module _ (m n : BlockState) (plan : Plan) (root : Root) (outside : List ℕ) (re
       member_passes (λ (x : Visit). (x.level == 0) && (x.index / P ^ v.level == v.index)) (visits_of t root) u (new-visit 0 i (omega arith) (leaf-there i l.1.1)) (eq-eqb (i / P ^ v.level) v.index l.1.2)
 
   -- so no pointer block is bare
-  new-bare : has_bare_block (with_bytes (block_map plan.order m) bytes) root ≡ false
+  new-bare : has_bare_block (map_with m plan bytes) root ≡ false
   new-bare =
-      let t : BlockMap = with_bytes (block_map plan.order m) bytes in
+      let t : BlockMap = map_with m plan bytes in
       no_member_passes (λ v. not (has_leaf_below t (visits_of t root) v)) (visits_of t root) (λ v c. ap not (leaf-under v c))
 
   -- the new node is as this project writes nodes
-  pub new-native : is_foreign_node (with_bytes (block_map plan.order m) bytes) root ≡ false
+  pub new-native : is_foreign_node (map_with m plan bytes) root ≡ false
   new-native =
       let levels : root.levels ≡ levels_for m.holdings.size (ceil_div root.size m.holdings.size) = b.levels ∙ ap (λ s. levels_for m.holdings.size (ceil_div s m.holdings.size)) (sym b.size) in
       λ i. not (eq-eqb root.levels (levels_for m.holdings.size (ceil_div root.size m.holdings.size)) levels i) || (new-plain i || new-bare i)
 
   -- no block stands at two of its positions
-  pub new-visits-apart : (u v : Visit) → Contains (visits_of (with_bytes (block_map plan.order m) bytes) root) u → Contains (visits_of (with_bytes (block_map plan.order m) bytes) root) v → u.block ≡ v.block → u ≡ v
+  pub new-visits-apart : (u v : Visit) → Contains (visits_of (map_with m plan bytes) root) u → Contains (visits_of (map_with m plan bytes) root) v → u.block ≡ v.block → u ≡ v
   new-visits-apart u v c d is =
       let a = visit-there u c in
       let e = visit-there v d in
@@ -223,9 +223,9 @@ module _ (m n : BlockState) (plan : Plan) (root : Root) (outside : List ℕ) (re
   -- ---- the bytes of leaves
 
   -- a leaf of the new node has the bytes of its block
-  pub new-leaf-bytes : (i : ℕ) → has_position m.holdings.size (alteration_in plan m).new 0 i ≡ true → leaf_bytes (with_bytes (block_map plan.order m) bytes) root i ≡ bytes (pointer_at (with_bytes (block_map plan.order m) bytes) root 0 i)
+  pub new-leaf-bytes : (i : ℕ) → has_position m.holdings.size (alteration_in plan m).new 0 i ≡ true → leaf_bytes (map_with m plan bytes) root i ≡ bytes (pointer_at (map_with m plan bytes) root 0 i)
   new-leaf-bytes i there =
-      let t : BlockMap = with_bytes (block_map plan.order m) bytes in
+      let t : BlockMap = map_with m plan bytes in
       let v : Visit = record { level = 0; index = i; block = pointer_at t root 0 i } in
       ap (bytes_at_leaf t) (node_leaf_found t root v words (new-visit 0 i (omega arith) there) refl (new-number m n plan root outside rest b bytes shows 0 i there))
 

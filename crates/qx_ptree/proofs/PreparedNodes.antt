@@ -1,37 +1,37 @@
 -- A node whose parts were prepared is prepared: its commit makes of it what the change makes of it.
-use Rattle.std.proofs.Common.{◌≡◌, ◌≢◌, ℕ, ◌+◌, ◌*◌, ◌^◌, ◌<◌, ◌≤◌, ◌⊎◌, inl, inr, List, ◌++◌, length, refl, sym, ◌∙◌, ap, subst, arith}
-use Rattle.std.specs.Prelude.{Bool, true, false, ◌||◌, ◌==◌, nat_lt, if◌then◌else◌, IsTrue, Contains}
+use Rattle.std.proofs.Common.{◌≡◌, ◌≢◌, ℕ, ◌≤◌, ◌⊎◌, inl, inr, List, ◌++◌, length, refl, sym, ◌∙◌, ap, subst, arith}
+use Rattle.std.specs.Prelude.{Bool, true, false, ◌==◌, nat_lt, if◌then◌else◌, IsTrue, Contains}
 use Rattle.std.specs.List.{list_any}
+use Rattle.std.proofs.lemmas.Bool.{or_right as or_second}
 use Rattle.qx_geom.specs.declared.root.Root.{Root}
 use Rattle.qx_geom.specs.Lists.{is_in}
-use Rattle.qx_geom.specs.Pointer.{absent, per_block}
+use Rattle.qx_geom.specs.Pointer.{absent}
 use Rattle.qx_geom.specs.Positions.{has_position, index_above}
 use Rattle.qx_geom.specs.Touch.{changed_leaves, is_touched, leaves_without}
 use Rattle.qx_geom.proofs.ImagesAndFilters.{any_image}
 use Rattle.qx_geom.proofs.LeastTouch.{has_above}
 use Rattle.qx_geom.proofs.Members.{in_append_cases, in_left}
-use Rattle.qx_nodes.specs.BlockMap.{BlockMap, with_bytes}
 use Rattle.qx_nodes.specs.Content.{leaf_bytes}
 use Rattle.qx_nodes.specs.ForeignNodes.{is_foreign_node}
 use Rattle.qx_nodes.specs.Visits.{Visit, present_of, visits_of}
 use Rattle.qx_blocks.specs.BlockState.{BlockState, IsConsistent}
 use Rattle.qx_ptree.specs.declared.fresh_blocks.Plan.{Plan}
 use Rattle.qx_ptree.specs.Alterations.{Alteration, fresh_count, shape_in}
-use Rattle.qx_ptree.specs.Altered.{Alters, AsLeft, IsPrepared, IsReadyLeaf, keeps_block, takes_fresh}
-use Rattle.qx_ptree.specs.Building.{BuildsTree, IsOldPosition, IsPlaced, Shows, is_kept, with_released}
+use Rattle.qx_ptree.specs.Altered.{Alters, AsLeft, IsPrepared, keeps_block, takes_fresh}
+use Rattle.qx_ptree.specs.Building.{BuildsTree, IsOldPosition, IsPlaced, Shows, is_kept}
 use Rattle.qx_ptree.specs.Fates.{is_written}
 use Rattle.qx_ptree.specs.Parts.{fresh_below}
 use Rattle.qx_ptree.specs.Plans.{IsPlan, alteration_in, planned_pointer}
 use Rattle.qx_ptree.specs.Takings.{Adds, Takes}
 use Rattle.qx_ptree.specs.Trees.{block_map, pointer_at}
-use Rattle.qx_ptree.specs.WorkState.{Preparation, WorkState, and_then, blocks_of, committed, no_work}
-use Rattle.qx_ptree.proofs.BuiltNodes.{IsBuilt, built, kept-old, old-visit, own_row, released-lost}
+use Rattle.qx_ptree.specs.WorkState.{CanEdit, WorkState, and_then, blocks_of, no_work}
+use Rattle.qx_ptree.proofs.BuiltNodes.{IsBuilt, blocks_after, built, kept-old, map_with, old-visit, own-fresh-block, own-kept-block, own_row, released-lost, stale-keeps}
 use Rattle.qx_ptree.proofs.CommitSteps.{committed-count, committed-size}
-use Rattle.qx_ptree.proofs.CommittedBlocks.{committed-fresh, committed-fresh-ready, committed-fresh-works, committed-kept-ready, committed-lost, committed-old, committed-old-works, committed-shows, kept-own, own-fresh-block, own-kept}
+use Rattle.qx_ptree.proofs.CommittedBlocks.{committed-fresh, committed-fresh-ready, committed-fresh-works, committed-kept-ready, committed-lost, committed-old, committed-old-works, committed-shows, kept-own}
 use Rattle.qx_ptree.proofs.LeafParts.{in_written-is, written-present}
 use Rattle.qx_ptree.proofs.MetPositions.{IsAt, visit_at}
 use Rattle.qx_ptree.proofs.NewNodes.{new-leaf-bytes, new-native, new-present, new-visits-apart, old-leaf-bytes, visit-there}
-use Rattle.qx_ptree.proofs.NewPositions.{keeps-other, placed}
+use Rattle.qx_ptree.proofs.NewPositions.{placed}
 use Rattle.qx_ptree.proofs.PointerCounts.{size_positive, words_positive}
 use Rattle.qx_ptree.proofs.SumsBelow.{sum_by-below, sum_up_to}
 use Rattle.qx_ptree.proofs.WholeNeed.{new-reached, whole-need}
@@ -41,54 +41,50 @@ use Rattle.qx_ptree.proofs.WholeNeed.{new-reached, whole-need}
 module _ (m n : BlockState) (plan : Plan) (root : Root) (outside : List ℕ) (rest : WorkState) (b : IsBuilt m n plan root outside rest)
     (mid : BlockState) (left : AsLeft plan.order (built plan root outside rest) n mid) where
   -- the blocks are as long as before
-  long-as : (committed mid (built plan root outside rest)).holdings.size ≡ m.holdings.size
+  long-as : (blocks_after plan root outside rest mid).holdings.size ≡ m.holdings.size
   long-as = committed-size mid (built plan root outside rest) ∙ left.size ∙ b.takes.size
 
   -- so pointers speak of the same blocks, but for their bytes
-  same-map : block_map plan.order (committed mid (built plan root outside rest)) ≡ with_bytes (block_map plan.order m) (committed mid (built plan root outside rest)).bytes
+  same-map : block_map plan.order (blocks_after plan root outside rest mid) ≡ map_with m plan (blocks_after plan root outside rest mid).bytes
   same-map = λ t. record {
     order = plan.order;
     size = long-as t;
     count = (committed-count mid (built plan root outside rest) ∙ left.count ∙ b.takes.count) t;
-    bytes = (committed mid (built plan root outside rest)).bytes;
+    bytes = (blocks_after plan root outside rest mid).bytes;
   }
 
   -- what was prepared has come about
-  shown : Shows m n plan rest (own_row root) (committed mid (built plan root outside rest)).bytes
+  shown : Shows m n plan rest (own_row root) (blocks_after plan root outside rest mid).bytes
   shown = committed-shows m n plan root outside rest b mid left
 
   -- each pointer is the one that the change makes of it
-  at-place : (k j : ℕ) → IsPlaced m n plan rest k j (pointer_at (block_map plan.order (committed mid (built plan root outside rest))) root k j)
-  at-place k j = subst (λ t. IsPlaced m n plan rest k j (pointer_at t root k j)) (sym same-map) (placed m n plan root outside rest b (committed mid (built plan root outside rest)).bytes shown k j)
+  at-place : (k j : ℕ) → IsPlaced m n plan rest k j (pointer_at (block_map plan.order (blocks_after plan root outside rest mid)) root k j)
+  at-place k j = subst (λ t. IsPlaced m n plan rest k j (pointer_at t root k j)) (sym same-map) (placed m n plan root outside rest b (blocks_after plan root outside rest mid).bytes shown k j)
 
   -- a visit of the new node is one of these blocks
-  met-again : (v : Visit) → Contains (visits_of (block_map plan.order (committed mid (built plan root outside rest))) root) v
-      → Contains (visits_of (with_bytes (block_map plan.order m) (committed mid (built plan root outside rest)).bytes) root) v
+  met-again : (v : Visit) → Contains (visits_of (block_map plan.order (blocks_after plan root outside rest mid)) root) v
+      → Contains (visits_of (map_with m plan (blocks_after plan root outside rest mid).bytes) root) v
   met-again v c = subst (λ t. Contains (visits_of t root) v) same-map c
 
-  -- a position that takes no fresh block keeps its own
-  keeps-own : (k j : ℕ) → has_position m.holdings.size (alteration_in plan m).new k j ≡ true → takes_fresh (alteration_in plan m) k j ≡ false → keeps_block (alteration_in plan m) k j ≡ true
-  keeps-own k j there stale = keeps-other m n plan root outside rest b (committed mid (built plan root outside rest)).bytes shown k j there stale
-
   -- the working tree holds the block at each position
-  works-at : (k j q : ℕ) → IsPlaced m n plan rest k j q → has_position m.holdings.size (alteration_in plan m).new k j ≡ true → IsTrue ((committed mid (built plan root outside rest)).holdings.works q)
+  works-at : (k j q : ℕ) → IsPlaced m n plan rest k j q → has_position m.holdings.size (alteration_in plan m).new k j ≡ true → IsTrue ((blocks_after plan root outside rest mid).holdings.works q)
   works-at k j q at there = go (takes_fresh (alteration_in plan m) k j) refl
     where
-      go : (t : Bool) → takes_fresh (alteration_in plan m) k j ≡ t → IsTrue ((committed mid (built plan root outside rest)).holdings.works q)
+      go : (t : Bool) → takes_fresh (alteration_in plan m) k j ≡ t → IsTrue ((blocks_after plan root outside rest mid).holdings.works q)
       go true e = committed-fresh-works m n plan root outside rest b mid left q (at.fresh there e)
-      go false e = let keeps = keeps-own k j there e in subst (λ x. IsTrue ((committed mid (built plan root outside rest)).holdings.works x)) (sym (at.stays keeps)) (committed-old-works m n plan root outside rest b mid left k j keeps)
+      go false e = let keeps = stale-keeps (alteration_in plan m) k j there e in subst (λ x. IsTrue ((blocks_after plan root outside rest mid).holdings.works x)) (sym (at.stays keeps)) (committed-old-works m n plan root outside rest b mid left k j keeps)
 
   -- a touched one is ready
   ready-at : (k j q : ℕ) → IsPlaced m n plan rest k j q → has_position m.holdings.size (alteration_in plan m).new k j ≡ true
-      → (let a = alteration_in plan m in is_touched a.blocksize a.old a.new a.written k j ≡ true) → IsTrue ((committed mid (built plan root outside rest)).holdings.ready q)
+      → (let a = alteration_in plan m in is_touched a.blocksize a.old a.new a.written k j ≡ true) → IsTrue ((blocks_after plan root outside rest mid).holdings.ready q)
   ready-at k j q at there touched = go (takes_fresh (alteration_in plan m) k j) refl
     where
-      go : (t : Bool) → takes_fresh (alteration_in plan m) k j ≡ t → IsTrue ((committed mid (built plan root outside rest)).holdings.ready q)
+      go : (t : Bool) → takes_fresh (alteration_in plan m) k j ≡ t → IsTrue ((blocks_after plan root outside rest mid).holdings.ready q)
       go true e = committed-fresh-ready m n plan root outside rest b mid left q (at.fresh there e)
       go false e =
-          let keeps = keeps-own k j there e in
+          let keeps = stale-keeps (alteration_in plan m) k j there e in
           let kept : is_kept (alteration_in plan m) k j ≡ true = λ t. if keeps t then touched t else false in
-          subst (λ x. IsTrue ((committed mid (built plan root outside rest)).holdings.ready x)) (sym (at.stays keeps)) (committed-kept-ready m n plan root outside rest b mid left k j kept)
+          subst (λ x. IsTrue ((blocks_after plan root outside rest mid).holdings.ready x)) (sym (at.stays keeps)) (committed-kept-ready m n plan root outside rest b mid left k j kept)
 
   -- and one of the change's
   own-at : (k j q : ℕ) → IsPlaced m n plan rest k j q → has_position m.holdings.size (alteration_in plan m).new k j ≡ true
@@ -96,11 +92,11 @@ module _ (m n : BlockState) (plan : Plan) (root : Root) (outside : List ℕ) (re
   own-at k j q at there touched = go (takes_fresh (alteration_in plan m) k j) refl
     where
       go : (t : Bool) → takes_fresh (alteration_in plan m) k j ≡ t → is_in (blocks_of (built plan root outside rest)) q ≡ true
-      go true e = own-fresh-block m n plan root outside rest b mid left q (at.fresh there e)
+      go true e = own-fresh-block outside rest q (at.fresh there e)
       go false e =
-          let keeps = keeps-own k j there e in
+          let keeps = stale-keeps (alteration_in plan m) k j there e in
           let kept : is_kept (alteration_in plan m) k j ≡ true = λ t. if keeps t then touched t else false in
-          subst (λ x. is_in (blocks_of (built plan root outside rest)) x ≡ true) (sym (at.stays keeps)) (own-kept m n plan root outside rest b mid left (planned_pointer plan m k j) (kept-own m n plan root outside rest b mid left k j kept))
+          subst (λ x. is_in (blocks_of (built plan root outside rest)) x ≡ true) (sym (at.stays keeps)) (own-kept-block outside rest (planned_pointer plan m k j) (kept-own m n plan root outside rest b mid left k j kept))
 
   -- above a written leaf stands a position at each level
   written-there : (i k : ℕ) → is_written plan.change i ≡ true → k ≤ root.levels → has_position m.holdings.size (alteration_in plan m).new k (index_above m.holdings.size k i) ≡ true
@@ -112,53 +108,49 @@ module _ (m n : BlockState) (plan : Plan) (root : Root) (outside : List ℕ) (re
       let a : Alteration = alteration_in plan m in
       let j : ℕ = index_above m.holdings.size k i in
       let changed : is_in (changed_leaves a.old a.new a.written) i ≡ true = in_left a.written (leaves_without a.new a.old ++ leaves_without a.old a.new) i (in_written-is plan.change i ∙ w) in
-      either (nat_lt a.old.levels k) (list_any (λ x. index_above a.blocksize k x == j) (changed_leaves a.old a.new a.written)) (any_image (index_above a.blocksize k) j (changed_leaves a.old a.new a.written) i changed refl)
-    where
-      either : (x y : Bool) → y ≡ true → (x || y) ≡ true
-      either true y e = refl
-      either false y e = e
+      or_second (nat_lt a.old.levels k) (list_any (λ x. index_above a.blocksize k x == j) (changed_leaves a.old a.new a.written)) (any_image (index_above a.blocksize k) j (changed_leaves a.old a.new a.written) i changed refl)
 
   -- a leaf has the bytes that stood there
   bytes-at : (i : ℕ) → has_position m.holdings.size (alteration_in plan m).new 0 i ≡ true
-      → leaf_bytes (with_bytes (block_map plan.order m) (committed mid (built plan root outside rest)).bytes) root i ≡ leaf_bytes (block_map plan.order m) plan.node i
-  bytes-at i there = new-leaf-bytes m n plan root outside rest b (committed mid (built plan root outside rest)).bytes shown i there ∙ go (takes_fresh (alteration_in plan m) 0 i) refl
+      → leaf_bytes (map_with m plan (blocks_after plan root outside rest mid).bytes) root i ≡ leaf_bytes (block_map plan.order m) plan.node i
+  bytes-at i there = new-leaf-bytes m n plan root outside rest b (blocks_after plan root outside rest mid).bytes shown i there ∙ go (takes_fresh (alteration_in plan m) 0 i) refl
     where
       q : ℕ
-      q = pointer_at (with_bytes (block_map plan.order m) (committed mid (built plan root outside rest)).bytes) root 0 i
+      q = pointer_at (map_with m plan (blocks_after plan root outside rest mid).bytes) root 0 i
 
       at : IsPlaced m n plan rest 0 i q
-      at = placed m n plan root outside rest b (committed mid (built plan root outside rest)).bytes shown 0 i
+      at = placed m n plan root outside rest b (blocks_after plan root outside rest mid).bytes shown 0 i
 
-      go : (t : Bool) → takes_fresh (alteration_in plan m) 0 i ≡ t → (committed mid (built plan root outside rest)).bytes q ≡ leaf_bytes (block_map plan.order m) plan.node i
+      go : (t : Bool) → takes_fresh (alteration_in plan m) 0 i ≡ t → (blocks_after plan root outside rest mid).bytes q ≡ leaf_bytes (block_map plan.order m) plan.node i
       go true e = committed-fresh m n plan root outside rest b mid left q (at.fresh there e) ∙ at.bytes refl there e
       go false e =
-          let keeps = keeps-own 0 i there e in
-          ap (committed mid (built plan root outside rest)).bytes (at.stays keeps) ∙ committed-old m n plan root outside rest b mid left 0 i keeps (λ kept above. omega (arith, above))
-          ∙ sym (old-leaf-bytes m n plan root outside rest b (committed mid (built plan root outside rest)).bytes shown i (kept-old m n plan root outside rest b 0 i keeps))
+          let keeps = stale-keeps (alteration_in plan m) 0 i there e in
+          ap (blocks_after plan root outside rest mid).bytes (at.stays keeps) ∙ committed-old m n plan root outside rest b mid left 0 i keeps (λ kept above. omega (arith, above))
+          ∙ sym (old-leaf-bytes m n plan root outside rest b (blocks_after plan root outside rest mid).bytes shown i (kept-old m n plan root outside rest b 0 i keeps))
 
   -- the node has become the one that the change makes of it
-  pub alters : Alters plan.order m (built plan root outside rest) (committed mid (built plan root outside rest))
+  pub alters : Alters plan.order m (built plan root outside rest) (blocks_after plan root outside rest mid)
   alters = record {
     size = b.size;
     levels = b.levels;
-    present = ap (λ t. present_of t root) same-map ∙ new-present m n plan root outside rest b (committed mid (built plan root outside rest)).bytes shown;
+    present = ap (λ t. present_of t root) same-map ∙ new-present m n plan root outside rest b (blocks_after plan root outside rest mid).bytes shown;
     works = λ v c.
-        let at = visit-there m n plan root outside rest b (committed mid (built plan root outside rest)).bytes shown v (met-again v c) in
-        works-at v.level v.index v.block (subst (λ q. IsPlaced m n plan rest v.level v.index q) (sym at.0) (placed m n plan root outside rest b (committed mid (built plan root outside rest)).bytes shown v.level v.index)) at.1;
+        let at = visit-there m n plan root outside rest b (blocks_after plan root outside rest mid).bytes shown v (met-again v c) in
+        works-at v.level v.index v.block (subst (λ q. IsPlaced m n plan rest v.level v.index q) (sym at.0) (placed m n plan root outside rest b (blocks_after plan root outside rest mid).bytes shown v.level v.index)) at.1;
     regular = record {
-      plain = ap (λ t. is_foreign_node t root) same-map ∙ new-native m n plan root outside rest b (committed mid (built plan root outside rest)).bytes shown;
-      apart = λ u v c d is. new-visits-apart m n plan root outside rest b (committed mid (built plan root outside rest)).bytes shown u v (met-again u c) (met-again v d) is;
+      plain = ap (λ t. is_foreign_node t root) same-map ∙ new-native m n plan root outside rest b (blocks_after plan root outside rest mid).bytes shown;
+      apart = λ u v c d is. new-visits-apart m n plan root outside rest b (blocks_after plan root outside rest mid).bytes shown u v (met-again u c) (met-again v d) is;
     };
     stays = λ k j keeps. (at-place k j).stays keeps;
     fresh = λ k j there f. (at-place k j).fresh there f;
     bytes = λ i there. ap (λ t. leaf_bytes t root i) same-map ∙ bytes-at i there;
     ready = λ i w k level.
-        subst (λ s. IsTrue ((committed mid (built plan root outside rest)).holdings.ready (pointer_at (block_map plan.order (committed mid (built plan root outside rest))) root k (index_above s k i)))) (sym long-as)
-        (ready-at k (index_above m.holdings.size k i) (pointer_at (block_map plan.order (committed mid (built plan root outside rest))) root k (index_above m.holdings.size k i)) (at-place k (index_above m.holdings.size k i)) (written-there i k w level) (written-touched i k w));
-    own = λ i k w level. own-at k (index_above m.holdings.size k i) (pointer_at (block_map plan.order (committed mid (built plan root outside rest))) root k (index_above m.holdings.size k i)) (at-place k (index_above m.holdings.size k i)) (written-there i k w level) (written-touched i k w);
+        subst (λ s. IsTrue ((blocks_after plan root outside rest mid).holdings.ready (pointer_at (block_map plan.order (blocks_after plan root outside rest mid)) root k (index_above s k i)))) (sym long-as)
+        (ready-at k (index_above m.holdings.size k i) (pointer_at (block_map plan.order (blocks_after plan root outside rest mid)) root k (index_above m.holdings.size k i)) (at-place k (index_above m.holdings.size k i)) (written-there i k w level) (written-touched i k w));
+    own = λ i k w level. own-at k (index_above m.holdings.size k i) (pointer_at (block_map plan.order (blocks_after plan root outside rest mid)) root k (index_above m.holdings.size k i)) (at-place k (index_above m.holdings.size k i)) (written-there i k w level) (written-touched i k w);
     given_up = λ v c lost.
         let at : IsAt (block_map plan.order m) plan.node v = visit_at (block_map plan.order m) plan.node v c in
-        ap (committed mid (built plan root outside rest)).holdings.works at.block ∙ committed-lost m n plan root outside rest b mid left v.level v.index (λ e. at.there (at.block ∙ e)) lost;
+        ap (blocks_after plan root outside rest mid).holdings.works at.block ∙ committed-lost m n plan root outside rest b mid left v.level v.index (λ e. at.there (at.block ∙ e)) lost;
   }
 
 -- ---- the preparation
@@ -212,10 +204,24 @@ tree-is-prepared m n plan work root before after long long_after met tells takes
       builds = tree.builds;
     }))
 
--- so it is where the work was added to none
+-- ---- where the work was added to none
+
+-- it is what was added
+added-is : (m n : BlockState) (before work : WorkState) → before ≡ no_work → (adds : Adds m n before work) → work ≡ adds.added
+added-is m n before work none adds = adds.is ∙ ap (λ w. and_then w adds.added) none
+
+-- so its fresh blocks were taken
+pub added-takes : (m n : BlockState) (before work : WorkState) → before ≡ no_work → Adds m n before work → Takes work.fresh m n
+added-takes m n before work none adds = subst (λ w. Takes w.fresh m n) (sym (added-is m n before work none adds)) adds.takes
+
+-- nothing stands in the way of its edits
+pub added-can-edit : (m n : BlockState) (before work : WorkState) → before ≡ no_work → Adds m n before work → CanEdit n work
+added-can-edit m n before work none adds = subst (CanEdit n) (sym (added-is m n before work none adds)) adds.edits
+
+-- and the node is prepared
 pub added-is-prepared : (m n : BlockState) (plan : Plan) (before work : WorkState) (root : Root) → IsConsistent m → IsConsistent n → length plan.node.pointers ≡ 16 → length root.pointers ≡ 16 → IsPlan m plan → IsTrue n.tells
     → before ≡ no_work → (adds : Adds m n before work) → BuildsTree m n plan adds.added root
     → IsPrepared plan.order m n (record { node = plan.node; change = plan.change; root = root; work = work })
 added-is-prepared m n plan before work root sound after long long_after met tells none adds tree =
-    subst (λ w. IsPrepared plan.order m n (record { node = plan.node; change = plan.change; root = root; work = w })) (sym (adds.is ∙ ap (λ w. and_then w adds.added) none))
+    subst (λ w. IsPrepared plan.order m n (record { node = plan.node; change = plan.change; root = root; work = w })) (sym (added-is m n before work none adds))
     (tree-is-prepared m n plan adds.added root sound after long long_after met tells adds.takes adds.kept tree)
