@@ -5,3 +5,4 @@ pub mod PointersByPosition
 pub mod MetPositions
 pub mod PresentPositions
 pub mod PlannedPointers
+pub mod KeptPlans
