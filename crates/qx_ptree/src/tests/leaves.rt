@@ -11,13 +11,13 @@ use std::test::Fail;
 
 // A fresh pointer block with one pointer.
 fn pointer_block<B: Blocks>(blocks: &mut B, order: Order, w: usize, to: u32) -> Result<u32, Stop>
+    requires size { (B.state blocks.old).holdings.size ≡ 512 }
     requires room { 0 < (B.state blocks.old).holdings.free }
     requires word { w < 128 }
     ensures free { OnOk result ((B.state blocks.new).holdings.free + 1 ≡ (B.state blocks.old).holdings.free) }
     ensures size { OnOk result ((B.state blocks.new).holdings.size ≡ (B.state blocks.old).holdings.size) }
     ensures tells { OnOk result ((B.state blocks.new).tells ≡ (B.state blocks.old).tells) }
 {
-    let _size = blocks.size();
     let block = blocks.fresh()?;
     let bytes = blocks.edit(block);
     bytes.fill(0xFF);
