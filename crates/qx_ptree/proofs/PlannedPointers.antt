@@ -53,6 +53,10 @@ planned_leads m plan k j p there =
       | inr h ↦ p.met.works p.told _ (pointer_met (block_map plan.order m) plan.node k j (planned_whole m plan p) h there)
     ]
 
+-- so it is what counts as leading
+pub planned_lead : (m : BlockState) (plan : Plan) (k j q lead : ℕ) → IsToldPlan m plan → q ≡ planned_pointer plan m k j → (Leads m q → lead ≡ q) → lead ≡ planned_pointer plan m k j
+planned_lead m plan k j q lead p is same = same (subst (Leads m) (sym is) (planned_leads m plan k j p)) ∙ is
+
 -- the node has a position where its pointer is there
 pub planned_position : (m : BlockState) (plan : Plan) (k j : ℕ) → IsToldPlan m plan → has_position m.holdings.size (alteration_in plan m).old k j ≡ not (planned_pointer plan m k j == absent)
 planned_position m plan k j p =
