@@ -20,3 +20,4 @@ pub mod CommittedBlocks
 pub mod NewPositions
 pub mod NewNodes
 pub mod PreparedNodes
+pub mod KeptPlans
