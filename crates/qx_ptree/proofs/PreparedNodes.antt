@@ -24,7 +24,7 @@ use Rattle.qx_ptree.specs.Parts.{fresh_below}
 use Rattle.qx_ptree.specs.Plans.{IsPlan, alteration_in, planned_pointer}
 use Rattle.qx_ptree.specs.Takings.{Adds, Takes}
 use Rattle.qx_ptree.specs.Trees.{block_map, pointer_at}
-use Rattle.qx_ptree.specs.WorkState.{CanEdit, WorkState, and_then, blocks_of, no_work}
+use Rattle.qx_ptree.specs.WorkState.{WorkState, and_then, blocks_of, no_work}
 use Rattle.qx_ptree.proofs.BuiltNodes.{IsBuilt, blocks_after, built, kept-old, map_with, old-visit, own-fresh-block, own-kept-block, own_row, released-lost, stale-keeps}
 use Rattle.qx_ptree.proofs.CommitSteps.{committed-count, committed-size}
 use Rattle.qx_ptree.proofs.CommittedBlocks.{committed-fresh, committed-fresh-ready, committed-fresh-works, committed-kept-ready, committed-lost, committed-old, committed-old-works, committed-shows, kept-own}
@@ -213,10 +213,6 @@ added-is m n before work none adds = adds.is ∙ ap (λ w. and_then w adds.added
 -- so its fresh blocks were taken
 pub added-takes : (m n : BlockState) (before work : WorkState) → before ≡ no_work → Adds m n before work → Takes work.fresh m n
 added-takes m n before work none adds = subst (λ w. Takes w.fresh m n) (sym (added-is m n before work none adds)) adds.takes
-
--- nothing stands in the way of its edits
-pub added-can-edit : (m n : BlockState) (before work : WorkState) → before ≡ no_work → Adds m n before work → CanEdit n work
-added-can-edit m n before work none adds = subst (CanEdit n) (sym (added-is m n before work none adds)) adds.edits
 
 -- and the node is prepared
 pub added-is-prepared : (m n : BlockState) (plan : Plan) (before work : WorkState) (root : Root) → IsConsistent m → IsConsistent n → length plan.node.pointers ≡ 16 → length root.pointers ≡ 16 → IsPlan m plan → IsTrue n.tells
