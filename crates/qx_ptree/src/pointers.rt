@@ -1,5 +1,5 @@
 //! A node's pointers by their position.
-ghost use Rattle.std.specs.Prelude.{◌≡◌, ◌<◌, ◌≤◌, ◌+◌, ◌-◌, ◌*◌, ℕ, length, if◌then◌else◌, IfOk, OnOk, IsTrue, slice_index};
+ghost use Rattle.std.specs.Prelude.{◌≡◌, ◌<◌, ◌≤◌, ◌+◌, ◌-◌, ◌*◌, ℕ, length, if◌then◌else◌, IfOk, OnOk, IsTrue, slice_index, ◌==◌};
 ghost use Rattle.qx_geom.specs.Pointer.{absent, per_block};
 ghost use Rattle.qx_nodes.specs.BlockMap.{word};
 ghost use Rattle.qx_blocks.specs.Calls.{HasStopCause, Keeps};
