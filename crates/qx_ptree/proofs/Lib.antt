@@ -5,3 +5,12 @@ pub mod PointersByPosition
 pub mod MetPositions
 pub mod PresentPositions
 pub mod PlannedPointers
+pub mod SumsBelow
+pub mod OwnPositions
+pub mod PartsOfBlocks
+pub mod LeafParts
+pub mod AlikeParts
+pub mod WholeNeed
+pub mod FullParts
+pub mod PartBounds
+pub mod ReachedLeaves

@@ -1,0 +1,24 @@
+use Rattle.std.proofs.Common.{◌≡◌, ◌≤◌, ◌<◌, ◌+◌, ◌*◌, ◌^◌, ◌⊎◌, IfOk, IfSome, IsTrue, ℕ, ◌-◌, length}
+use Rattle.qx_geom.specs.Layout.{levels_for}
+use Rattle.qx_geom.specs.Pointer.{absent, per_block}
+use Rattle.qx_blocks.specs.BlockState.{BlockState}
+use Rattle.qx_blocks.specs.Calls.{HasStopCause, Keeps}
+use Rattle.qx_ptree.specs.Fates.{IsChange, leaves_after}
+use Rattle.qx_ptree.specs.Parts.{part_of, parts_up_to}
+use Rattle.qx_ptree.specs.Plans.{InReach, IsPlan, alteration_in, planned_pointer}
+use Rattle.qx_ptree.proofs.fresh_blocks.+part_at.Given as goal
+
+abbrev pub decreases-part_at : goal.decreases-part_at
+decreases-part_at g l = l.level
+
+abbrev pub invariant-loop-w : goal.invariant-loop-w
+invariant-loop-w g l =
+    let m = g.B.Blocks.state l.fn.blocks in
+    record {
+      part : IsTrue (g.B.Blocks.state l.blocks).tells → l.level ≤ levels_for m.holdings.size (leaves_after m.holdings.size l.plan.change)
+          → l.part ≡ parts_up_to l.w (λ w. part_of (alteration_in l.plan m) (l.level - 1) (l.index * per_block m.holdings.size + w));
+      few : l.part.need + l.w ≤ l.w * (2 * per_block m.holdings.size ^ (l.level - 1));
+      keeps : Keeps m (g.B.Blocks.state l.blocks);
+      aside : g.B.Blocks.aside l.blocks ≡ g.B.Blocks.aside l.fn.blocks;
+      faults : g.B.Blocks.faults l.fn.blocks ≤ g.B.Blocks.faults l.blocks;
+    }
