@@ -1,10 +1,10 @@
 //! How many fresh blocks a change takes.
-ghost use Rattle.std.specs.Prelude.{◌≡◌, ◌≤◌, ◌<◌, ◌+◌, ◌*◌, ◌^◌, ◌⊎◌, IfOk, IfSome, IsTrue};
+ghost use Rattle.std.specs.Prelude.{◌≡◌, ℕ, ◌≤◌, ◌<◌, ◌+◌, ◌*◌, ◌^◌, ◌⊎◌, IfOk, IfSome, IsTrue};
 ghost use Rattle.qx_geom.specs.Layout.{levels_for};
 ghost use Rattle.qx_geom.specs.Pointer.{absent, per_block};
 ghost use Rattle.qx_blocks.specs.Calls.{HasStopCause, Keeps};
 ghost use Rattle.qx_ptree.specs.Alterations.{alteration_of, fresh_count};
-ghost use Rattle.qx_ptree.specs.Fates.{IsChange, leaves_after};
+ghost use Rattle.qx_ptree.specs.Fates.{IsChange, fate_of, leaves_after};
 ghost use Rattle.qx_ptree.specs.Parts.{part_of};
 ghost use Rattle.qx_ptree.specs.Plans.{InReach, IsPlan, alteration_in, planned_pointer};
 ghost use Rattle.qx_ptree.specs.Trees.{HasLevels, IsRegular, IsWorking, Leads};
@@ -132,26 +132,36 @@ fn alike_part<B: Blocks>(
         → part ≡ part_of (alteration_in plan.now (B.state blocks.now)) level index) }
     ensures few { IfSome result (λ part. part.need + 1 ≤ 2 * per_block (B.state blocks.now).holdings.size ^ level) }
 {
-    // Above the node's levels the first block has old leaves below it, though no pointer leads to it.
-    if plan.node.levels < level && index == 0 {
-        return None;
-    }
-    let size = blocks.size() as u64;
-    let words = size / 4;
-    let span = words.pow(u32::from(level));
     let had = pointer != ABSENT;
-    match common_fate(
-        &plan.change,
-        plan.change.size.div_ceil(size),
-        index * span,
-        span,
-    )? {
+    match alike_fate(blocks, plan, level, index)? {
         Fate::Written if had => None,
         Fate::Written => Some(Part {
-            need: full(words, level),
+            need: full(blocks.size() as u64 / 4, level),
             changed: true,
             present: true,
         }),
         fate => Some(leaf_part(fate, had, true)),
     }
+}
+
+// What becomes of each leaf below block `index` of a level, where it is seen to be the same for all.
+pub(crate) fn alike_fate<B: Blocks>(blocks: &B, plan: &Plan, level: u8, index: u64) -> Option<Fate>
+    requires reach { InReach (B.state blocks.now).holdings.size level index }
+    ensures fate { IfSome result (λ fate. (i : ℕ) → index * per_block (B.state blocks.now).holdings.size ^ level ≤ i
+        → i < (index + 1) * per_block (B.state blocks.now).holdings.size ^ level
+        → fate_of (leaves_after (B.state blocks.now).holdings.size plan.now.change) plan.now.change i ≡ fate) }
+    ensures level { IfSome result (λ fate. (level ≤ plan.now.node.levels) ⊎ ¬ (index ≡ 0)) }
+{
+    // Above the node's levels the first block has old leaves below it, though no pointer leads to it.
+    if plan.node.levels < level && index == 0 {
+        return None;
+    }
+    let size = blocks.size() as u64;
+    let span = (size / 4).pow(u32::from(level));
+    common_fate(
+        &plan.change,
+        plan.change.size.div_ceil(size),
+        index * span,
+        span,
+    )
 }
