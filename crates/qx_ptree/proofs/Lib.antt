@@ -14,3 +14,4 @@ pub mod WholeNeed
 pub mod FullParts
 pub mod PartBounds
 pub mod ReachedLeaves
+pub mod KeptPlans

@@ -1,5 +1,5 @@
 //! How many fresh blocks a change takes.
-ghost use Rattle.std.specs.Prelude.{◌≡◌, ℕ, ◌≤◌, ◌<◌, ◌+◌, ◌*◌, ◌^◌, ◌⊎◌, IfOk, IfSome, IsTrue};
+ghost use Rattle.std.specs.Prelude.{◌≡◌, ℕ, ◌≤◌, ◌<◌, ◌+◌, ◌*◌, ◌^◌, ◌⊎◌, length, IfOk, IfSome, IsTrue};
 ghost use Rattle.qx_geom.specs.Layout.{levels_for};
 ghost use Rattle.qx_geom.specs.Pointer.{absent, per_block};
 ghost use Rattle.qx_blocks.specs.Calls.{HasStopCause, Keeps};
@@ -66,6 +66,7 @@ fn part_at<B: Blocks>(
 ) -> Result<Part, Stop>
     requires reach { InReach (B.state blocks.old).holdings.size level index }
     requires plan { IsPlan (B.state blocks.old) plan.now }
+    requires long { length plan.now.node.pointers ≡ 16 }
     requires pointer { IsTrue (B.state blocks.old).tells → pointer ≡ planned_pointer plan.now (B.state blocks.old) level index }
     ensures part { IfOk result (λ part. IsTrue (B.state blocks.new).tells
         → level ≤ levels_for (B.state blocks.old).holdings.size (leaves_after (B.state blocks.old).holdings.size plan.now.change)
@@ -103,6 +104,7 @@ fn part_at<B: Blocks>(
 // The part of a leaf.
 fn part_of_leaf<B: Blocks>(blocks: &B, plan: &Plan, index: u64, pointer: u32) -> Part
     requires plan { IsPlan (B.state blocks.now) plan.now }
+    requires long { length plan.now.node.pointers ≡ 16 }
     requires pointer { IsTrue (B.state blocks.now).tells → pointer ≡ planned_pointer plan.now (B.state blocks.now) 0 index }
     ensures part { IsTrue (B.state blocks.now).tells → result ≡ part_of (alteration_in plan.now (B.state blocks.now)) 0 index }
     ensures few { result.need ≤ 1 }
@@ -126,6 +128,7 @@ fn alike_part<B: Blocks>(
 ) -> Option<Part>
     requires reach { InReach (B.state blocks.now).holdings.size level index }
     requires plan { IsPlan (B.state blocks.now) plan.now }
+    requires long { length plan.now.node.pointers ≡ 16 }
     requires pointer { IsTrue (B.state blocks.now).tells → pointer ≡ planned_pointer plan.now (B.state blocks.now) level index }
     ensures part { IfSome result (λ part. IsTrue (B.state blocks.now).tells
         → level ≤ levels_for (B.state blocks.now).holdings.size (leaves_after (B.state blocks.now).holdings.size plan.now.change)
