@@ -15,3 +15,4 @@ pub mod FullParts
 pub mod PartBounds
 pub mod ReachedLeaves
 pub mod KeptPlans
+pub mod PlannedParts

@@ -2,6 +2,7 @@
 ghost use Rattle.std.specs.Prelude.{◌≡◌, ℕ, ◌≤◌, ◌<◌, ◌+◌, ◌*◌, ◌^◌, ◌⊎◌, length, IfOk, IfSome, IsTrue};
 ghost use Rattle.qx_geom.specs.Layout.{levels_for};
 ghost use Rattle.qx_geom.specs.Pointer.{absent, per_block};
+ghost use Rattle.qx_blocks.specs.BlockState.{IsConsistent};
 ghost use Rattle.qx_blocks.specs.Calls.{HasStopCause, Keeps};
 ghost use Rattle.qx_ptree.specs.Alterations.{alteration_of, fresh_count};
 ghost use Rattle.qx_ptree.specs.Fates.{IsChange, fate_of, leaves_after};
@@ -126,6 +127,7 @@ fn alike_part<B: Blocks>(
     index: u64,
     pointer: u32,
 ) -> Option<Part>
+    requires consistent { IsConsistent (B.state blocks.now) }
     requires reach { InReach (B.state blocks.now).holdings.size level index }
     requires plan { IsPlan (B.state blocks.now) plan.now }
     requires long { length plan.now.node.pointers ≡ 16 }
