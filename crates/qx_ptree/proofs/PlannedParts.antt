@@ -1,23 +1,28 @@
 -- What the change of a plan makes of the parts of its node.
 use Rattle.std.proofs.Common.{◌≡◌, ◌≢◌, ℕ, ◌<◌, ◌≤◌, ◌⊎◌, inl, inr, length, refl, sym, ◌∙◌, ap, subst, arith}
 use Rattle.std.specs.Prelude.{Bool, true, false, not, ◌==◌, IsTrue}
+use Rattle.std.specs.Int.{div_ceil}
 use Rattle.std.proofs.lemmas.Bool.{cases_lt}
 use Rattle.qx_geom.specs.Layout.{levels_for}
 use Rattle.qx_geom.specs.Pointer.{absent, per_block}
 use Rattle.qx_nodes.proofs.MetLeaves.{present_ascends}
 use Rattle.qx_blocks.specs.BlockState.{BlockState, IsConsistent}
+use Rattle.qx_ptree.specs.declared.change.Change.{Change}
 use Rattle.qx_ptree.specs.declared.change.Fate.{Fate}
 use Rattle.qx_ptree.specs.declared.change.Fate.TheVariants.{Stays, Written, Goes}
 use Rattle.qx_ptree.specs.declared.fresh_blocks.Plan.{Plan}
 use Rattle.qx_ptree.specs.declared.part.Part.{Part}
+use Rattle.qx_ptree.specs.Alterations.{fresh_count}
 use Rattle.qx_ptree.specs.Fates.{leaves_after}
 use Rattle.qx_ptree.specs.Parts.{full_below, has_below, leaf_part, part_of}
 use Rattle.qx_ptree.specs.Plans.{IsPlan, alteration_in, planned_pointer}
 use Rattle.qx_ptree.specs.Trees.{Leads, block_map}
 use Rattle.qx_ptree.proofs.AlikeParts.{AllFare, part-unwritten, part-written}
 use Rattle.qx_ptree.proofs.PlannedPointers.{IsToldPlan, planned_above, planned_below, planned_leads}
-use Rattle.qx_ptree.proofs.PointerCounts.{words_positive}
+use Rattle.qx_ptree.proofs.PointerCounts.{size_positive, words_positive}
 use Rattle.qx_ptree.proofs.PointersByPosition.{at_above}
+use Rattle.qx_ptree.proofs.SumsBelow.{sum_up_to}
+use Rattle.qx_ptree.proofs.WholeNeed.{leaves-are, new-reached, whole-need}
 
 -- the pointer that is followed is the plan's
 pub followed : (m : BlockState) (plan : Plan) (k j pointer result : ℕ) → IsToldPlan m plan → pointer ≡ planned_pointer plan m k j → (Leads m pointer → result ≡ pointer) → result ≡ planned_pointer plan m k j
@@ -51,3 +56,16 @@ alike-written m plan k j pointer known where_ is le none all =
     let words : 0 < per_block m.holdings.size = words_positive m.holdings.size known.consistent.size in
     let had = planned-had m plan k j pointer known where_ is in
     sym (part-written m.holdings.size (alteration_in plan m).old plan.change (λ k j. m.holdings.private (planned_pointer plan m k j)) (present_ascends (block_map plan.order m) plan.node words) words k j le (sym had.0 ∙ none) all)
+
+-- ---- the whole
+
+-- the level of the new node's own pointers, as the code finds it
+pub level-is : (blocksize size leaves level : ℕ) (c : Change) → 0 < blocksize → size ≡ blocksize → leaves ≡ div_ceil c.size size → level ≡ levels_for size leaves → level ≡ levels_for blocksize (leaves_after blocksize c)
+level-is blocksize size leaves level c some size_is leaves_is is = is ∙ (λ i. levels_for (size_is i) ((leaves_is ∙ leaves-are c blocksize size some size_is) i))
+
+-- what the parts below them take is what the change takes
+pub need-is : (m : BlockState) (plan : Plan) (level n need : ℕ) → IsConsistent m → IsPlan m plan → level ≡ levels_for m.holdings.size (leaves_after m.holdings.size plan.change) → n ≡ 16
+    → need ≡ sum_up_to n (λ j. (part_of (alteration_in plan m) level j).need) → need ≡ fresh_count (alteration_in plan m)
+need-is m plan level n need s met level_is all is =
+    is ∙ (λ i. sum_up_to (all i) (λ j. (part_of (alteration_in plan m) (level_is i) j).need))
+    ∙ sym (whole-need (alteration_in plan m) (words_positive m.holdings.size s.size) (new-reached m.holdings.size (alteration_in plan m).old plan.change (size_positive m.holdings.size s.size) met.change))

@@ -52,7 +52,8 @@ pub fn need<B: Blocks>(
     let pointers = top_pointers(blocks, &plan, level)?;
     let mut need = 0;
     for (j, pointer) in pointers.iter().enumerate() {
-        need += part_at(blocks, &plan, level, j as u64, *pointer)?.need;
+        let part = part_at(blocks, &plan, level, j as u64, *pointer)?;
+        need += part.need;
     }
     Ok(need)
 }
