@@ -16,3 +16,4 @@ pub mod PartBounds
 pub mod ReachedLeaves
 pub mod KeptPlans
 pub mod PlannedParts
+pub mod EmptyNodes
