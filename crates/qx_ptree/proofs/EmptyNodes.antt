@@ -1,21 +1,14 @@
 -- A node of nothing.
-use Rattle.std.proofs.Common.{◌≡◌, ℕ, ◌+◌, ◌-◌, ◌*◌, ◌/◌, ◌<◌, ◌≤◌, inl, inr, List, [], refl, sym, ◌∙◌, ap, subst, arith}
-use Rattle.std.specs.Prelude.{Bool, true, false, not, ◌&&◌, ◌||◌, ◌==◌, nat_le, nat_lt, Option, Some, None, IfSome, Contains, replicate}
-use Rattle.std.proofs.lemmas.Bool.{and_parts, eqb-true, le-ltb, leb-true, ltb-true, or_cases}
+use Rattle.std.proofs.Common.{◌≡◌, ℕ, ◌+◌, ◌-◌, ◌/◌, ◌<◌, ◌≤◌, ap, arith}
+use Rattle.std.specs.Prelude.{false, not, ◌||◌, ◌==◌, replicate}
 use Rattle.std.proofs.lemmas.Nat.{div_below}
 use Rattle.qx_fields.specs.declared.order.Order.{Order}
 use Rattle.qx_geom.specs.declared.root.Root.{Root}
 use Rattle.qx_geom.specs.Layout.{levels_for}
-use Rattle.qx_geom.specs.Pointer.{absent, ceil_div, reach}
-use Rattle.qx_geom.specs.Positions.{is_named}
+use Rattle.qx_geom.specs.Pointer.{absent, ceil_div}
 use Rattle.qx_geom.proofs.LeastLevels.{levels_for-le}
-use Rattle.qx_nodes.specs.BlockMap.{BlockMap}
-use Rattle.qx_nodes.specs.ForeignNodes.{has_bare_block, has_strays, is_foreign_node}
-use Rattle.qx_nodes.specs.Visits.{visits_of}
 use Rattle.qx_blocks.specs.BlockState.{BlockState}
-use Rattle.qx_ptree.specs.declared.change.Change.{Change}
-use Rattle.qx_ptree.specs.Fates.{IsChange, is_written}
-use Rattle.qx_ptree.specs.Trees.{HasLevels, IsRegular, IsWorking, block_map}
+use Rattle.qx_ptree.specs.Trees.{IsRegular}
 
 -- it has no pointer
 abbrev pub empty_node : Root

@@ -1,6 +1,6 @@
 -- What the change of a plan makes of the parts of its node.
-use Rattle.std.proofs.Common.{◌≡◌, ◌≢◌, ℕ, ◌<◌, ◌≤◌, ◌⊎◌, inl, inr, length, refl, sym, ◌∙◌, ap, subst, arith}
-use Rattle.std.specs.Prelude.{Bool, true, false, not, ◌==◌, IsTrue}
+use Rattle.std.proofs.Common.{◌≡◌, ◌≢◌, ℕ, ◌<◌, ◌≤◌, ◌⊎◌, inl, inr, sym, ◌∙◌, ap, subst, arith}
+use Rattle.std.specs.Prelude.{true, false, not, ◌==◌}
 use Rattle.std.specs.Int.{div_ceil}
 use Rattle.std.proofs.lemmas.Bool.{cases_lt}
 use Rattle.qx_geom.specs.Layout.{levels_for}
@@ -9,9 +9,8 @@ use Rattle.qx_nodes.proofs.MetLeaves.{present_ascends}
 use Rattle.qx_blocks.specs.BlockState.{BlockState, IsConsistent}
 use Rattle.qx_ptree.specs.declared.change.Change.{Change}
 use Rattle.qx_ptree.specs.declared.change.Fate.{Fate}
-use Rattle.qx_ptree.specs.declared.change.Fate.TheVariants.{Stays, Written, Goes}
+use Rattle.qx_ptree.specs.declared.change.Fate.TheVariants.{Written}
 use Rattle.qx_ptree.specs.declared.fresh_blocks.Plan.{Plan}
-use Rattle.qx_ptree.specs.declared.part.Part.{Part}
 use Rattle.qx_ptree.specs.Alterations.{fresh_count}
 use Rattle.qx_ptree.specs.Fates.{leaves_after}
 use Rattle.qx_ptree.specs.Parts.{full_below, has_below, leaf_part, part_of}

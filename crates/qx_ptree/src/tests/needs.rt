@@ -93,6 +93,9 @@ fn a_change_that_writes_no_leaf_takes_nothing(rt: HostRuntime) -> Result<(), Fai
 #[test]
 fn two_million_leaves_are_counted_at_once(rt: HostRuntime) -> Result<(), Fail> {
     // 2^21 leaves below 2^14, 2^7 and 1 pointer blocks.
-    assert_eq!(rt; takes(rt.alloc(), 512, 1 << 30, 0, 1 << 21, None)?, 2_113_665);
+    assert_eq!(rt;
+        takes(rt.alloc(), 512, 1 << 30, 0, 1 << 21, None)?,
+        2_113_665
+    );
     Ok(())
 }

@@ -1,22 +1,20 @@
-use Rattle.std.proofs.Common.{◌≡◌, ◌≢◌, ◌≤◌, ◌<◌, ◌+◌, ◌-◌, ◌*◌, ◌/◌, ◌^◌, ◌∙◌, ℕ, Bool, true, false, arith, rules, sym, ap, subst, length}
+use Rattle.std.proofs.Common.{◌≡◌, ◌≤◌, ◌<◌, ◌+◌, ◌-◌, ◌*◌, ◌/◌, ◌^◌, ◌∙◌, ℕ, arith, rules, sym, ap, subst}
 use Rattle.std.proofs.lemmas.List.{get_or-take}
 use Rattle.std.specs.Prelude.{IsTrue, not, ◌==◌}
 use Rattle.qx_geom.specs.Layout.{levels_for}
 use Rattle.qx_geom.specs.Pointer.{absent, per_block}
 use Rattle.qx_geom.specs.Positions.{Shape, has_position}
-use Rattle.qx_blocks.specs.BlockState.{BlockState, IsBlockSize}
-use Rattle.qx_blocks.specs.Calls.{Keeps}
+use Rattle.qx_blocks.specs.BlockState.{BlockState}
 use Rattle.qx_nodes.proofs.MetLeaves.{present_ascends}
 use Rattle.qx_ptree.specs.declared.fresh_blocks.Plan.{Plan}
-use Rattle.qx_ptree.specs.Alterations.{shape_in}
 use Rattle.qx_ptree.specs.Fates.{leaves_after}
 use Rattle.qx_ptree.specs.Trees.{block_map}
 use Rattle.qx_ptree.specs.Parts.{part_of}
 use Rattle.qx_ptree.specs.Plans.{alteration_in, planned_pointer}
-use Rattle.qx_ptree.proofs.KeptPlans.{kept_again, kept_part, kept_plan, kept_pointer, kept_reach}
+use Rattle.qx_ptree.proofs.KeptPlans.{kept_again, kept_part, kept_plan, kept_reach}
 use Rattle.qx_ptree.proofs.LeafParts.{new-ascends}
 use Rattle.qx_ptree.proofs.PartsOfBlocks.{part-done, part-more}
-use Rattle.qx_ptree.proofs.PartBounds.{child-fits, child-reach, few-all, few-fits, few-more, level-fits, own-few, words-bounds}
+use Rattle.qx_ptree.proofs.PartBounds.{child-fits, child-reach, few-all, few-fits, few-more, level-fits, own-few}
 use Rattle.qx_ptree.proofs.PlannedParts.{followed}
 use Rattle.qx_ptree.proofs.PlannedPointers.{IsToldPlan, planned_position}
 use Rattle.qx_ptree.proofs.PointerCounts.{words_positive}
@@ -87,7 +85,7 @@ loop-w-preserved g t c =
     let mid : BlockState = g.B.Blocks.state c.loop-w.blocks in
     let new : BlockState = g.B.Blocks.state c.part_at.new.blocks in
     let child_level : c.args.level ≤ levels_for b (leaves_after b c.args.plan.now.change) → c.args.level - 1 ≤ levels_for mid.holdings.size (leaves_after mid.holdings.size c.args.plan.now.change) = λ le.
-        subst (λ h. c.args.level - 1 ≤ levels_for h.size (leaves_after h.size c.args.plan.now.change)) (sym c.loop-w.invariant.keeps.holdings) (omega (arith, le)) in
+    subst (λ h. c.args.level - 1 ≤ levels_for h.size (leaves_after h.size c.args.plan.now.change)) (sym c.loop-w.invariant.keeps.holdings) (omega (arith, le)) in
     let mid_told : IsTrue new.tells → IsTrue mid.tells = λ told. subst (λ x. IsTrue x.tells) (c.in_ok-part_at.ensures.keeps.told told) told in
     record {
       part = λ told le. part-more (alteration_in c.args.plan.now m) (c.args.level - 1) c.args.index (c.size-words.result / 4) c.loop-w.w c.loop-w.part c.in_ok-part_at.field-0 c.beside-part.result (ap (λ n. n / 4) c.size-words.ensures.size) (c.loop-w.invariant.part (mid_told told) le)

@@ -1,11 +1,10 @@
-use Rattle.std.proofs.Common.{◌≡◌, ◌≤◌, ◌<◌, ◌+◌, ◌*◌, ◌^◌, ◌⊎◌, IfOk, IfSome, IsTrue, ◌-◌}
+use Rattle.std.proofs.Common.{◌≡◌, ◌≤◌, ◌+◌, ◌*◌, ◌^◌, IsTrue, ◌-◌}
 use Rattle.qx_geom.specs.Layout.{levels_for}
-use Rattle.qx_geom.specs.Pointer.{absent, per_block}
-use Rattle.qx_blocks.specs.BlockState.{BlockState}
-use Rattle.qx_blocks.specs.Calls.{HasStopCause, Keeps}
-use Rattle.qx_ptree.specs.Fates.{IsChange, leaves_after}
+use Rattle.qx_geom.specs.Pointer.{per_block}
+use Rattle.qx_blocks.specs.Calls.{Keeps}
+use Rattle.qx_ptree.specs.Fates.{leaves_after}
 use Rattle.qx_ptree.specs.Parts.{part_of, parts_up_to}
-use Rattle.qx_ptree.specs.Plans.{InReach, IsPlan, alteration_in, planned_pointer}
+use Rattle.qx_ptree.specs.Plans.{alteration_in}
 use Rattle.qx_ptree.proofs.fresh_blocks.+part_at.Given as goal
 
 abbrev pub decreases-part_at : goal.decreases-part_at

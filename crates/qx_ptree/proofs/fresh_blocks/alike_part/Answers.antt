@@ -1,4 +1,4 @@
-use Rattle.std.proofs.Common.{◌≡◌, ◌≤◌, ◌+◌, ◌*◌, ◌/◌, ◌^◌, ◌∙◌, ℕ, arith, sym, ap, subst}
+use Rattle.std.proofs.Common.{◌≤◌, ◌+◌, ◌*◌, ◌/◌, ◌^◌, ◌∙◌, ℕ, arith, sym, ap, subst}
 use Rattle.std.specs.Prelude.{true, not, ◌==◌}
 use Rattle.qx_geom.specs.Pointer.{absent, per_block}
 use Rattle.qx_blocks.specs.BlockState.{BlockState}

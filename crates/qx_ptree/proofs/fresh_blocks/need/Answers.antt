@@ -1,4 +1,4 @@
-use Rattle.std.proofs.Common.{rules, ◌≡◌, ℕ, ◌≤◌, ◌<◌, ◌+◌, ◌*◌, ◌^◌, ◌-◌, ◌∙◌, refl, length, slice_index, IfOk, IsTrue, arith, sym, ap, subst}
+use Rattle.std.proofs.Common.{rules, ◌≡◌, ℕ, ◌≤◌, ◌<◌, ◌+◌, ◌*◌, ◌^◌, ◌∙◌, refl, IsTrue, arith, sym, subst}
 use Rattle.qx_geom.specs.Layout.{levels_for}
 use Rattle.qx_geom.specs.Pointer.{per_block}
 use Rattle.qx_blocks.specs.BlockState.{BlockState}

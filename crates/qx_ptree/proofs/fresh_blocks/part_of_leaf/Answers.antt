@@ -1,4 +1,4 @@
-use Rattle.std.proofs.Common.{◌≡◌, ◌≤◌, ◌∙◌, ℕ, arith, sym, ap}
+use Rattle.std.proofs.Common.{◌≡◌, ◌∙◌, ℕ, arith, sym, ap}
 use Rattle.std.specs.Prelude.{not, ◌==◌}
 use Rattle.qx_geom.specs.Pointer.{absent}
 use Rattle.qx_geom.specs.Positions.{Shape}

@@ -1,4 +1,3 @@
-use Rattle.qx_fields.specs.declared.order.Order.{Order}
 use Rattle.qx_fields.specs.declared.order.Order.TheVariants.{Little}
 use Rattle.qx_ptree.proofs.EmptyNodes.{empty-regular}
 use Rattle.qx_ptree.proofs.PointerCounts.{size_positive}
