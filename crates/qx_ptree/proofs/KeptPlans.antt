@@ -13,6 +13,14 @@ use Rattle.qx_ptree.specs.Parts.{part_of}
 pub told_before : (old mid : BlockState) → Keeps old mid → IsTrue mid.tells → IsTrue old.tells
 told_before old mid k told = subst (λ x. IsTrue x.tells) (k.told told) told
 
+-- two such calls, one after the other
+pub kept_again : (old mid new : BlockState) → Keeps old mid → Keeps mid new → Keeps old new
+kept_again old mid new first later = record {
+  told = λ told. later.told told ∙ first.told (told_before mid new later told);
+  holdings = later.holdings ∙ first.holdings;
+  ready = λ b is. later.ready b (subst (λ h. IsTrue (h.ready b)) (sym first.holdings) is) ∙ first.ready b is;
+}
+
 -- the blocks are consistent
 pub kept_consistent : (old mid : BlockState) → Keeps old mid → IsConsistent old → IsConsistent mid
 kept_consistent old mid k s = record {

@@ -1,3 +1,10 @@
+pub mod PointerCounts
+pub mod WorkingPaths
+pub mod ReadPointers
+pub mod PointersByPosition
+pub mod MetPositions
+pub mod PresentPositions
+pub mod PlannedPointers
 pub mod SumsBelow
 pub mod OwnPositions
 pub mod PartsOfBlocks
@@ -7,13 +14,6 @@ pub mod WholeNeed
 pub mod FullParts
 pub mod PartBounds
 pub mod ReachedLeaves
-pub mod PointerCounts
-pub mod WorkingPaths
-pub mod ReadPointers
-pub mod PointersByPosition
-pub mod MetPositions
-pub mod PresentPositions
-pub mod PlannedPointers
 pub mod CommitSteps
 pub mod BuiltNodes
 pub mod CommittedBlocks
@@ -21,3 +21,5 @@ pub mod NewPositions
 pub mod NewNodes
 pub mod PreparedNodes
 pub mod KeptPlans
+pub mod PlannedParts
+pub mod EmptyNodes

@@ -1,7 +1,8 @@
 //! How many fresh blocks a change takes.
-ghost use Rattle.std.specs.Prelude.{◌≡◌, ℕ, ◌≤◌, ◌<◌, ◌+◌, ◌*◌, ◌^◌, ◌⊎◌, IfOk, IfSome, IsTrue};
+ghost use Rattle.std.specs.Prelude.{◌≡◌, ℕ, ◌≤◌, ◌<◌, ◌+◌, ◌*◌, ◌^◌, ◌⊎◌, ◌-◌, length, slice_index, IfOk, IfSome, IsTrue};
 ghost use Rattle.qx_geom.specs.Layout.{levels_for};
 ghost use Rattle.qx_geom.specs.Pointer.{absent, per_block};
+ghost use Rattle.qx_blocks.specs.BlockState.{IsConsistent};
 ghost use Rattle.qx_blocks.specs.Calls.{HasStopCause, Keeps};
 ghost use Rattle.qx_ptree.specs.Alterations.{alteration_of, fresh_count};
 ghost use Rattle.qx_ptree.specs.Fates.{IsChange, fate_of, leaves_after};
@@ -51,7 +52,8 @@ pub fn need<B: Blocks>(
     let pointers = top_pointers(blocks, &plan, level)?;
     let mut need = 0;
     for (j, pointer) in pointers.iter().enumerate() {
-        need += part_at(blocks, &plan, level, j as u64, *pointer)?.need;
+        let part = part_at(blocks, &plan, level, j as u64, *pointer)?;
+        need += part.need;
     }
     Ok(need)
 }
@@ -66,6 +68,7 @@ fn part_at<B: Blocks>(
 ) -> Result<Part, Stop>
     requires reach { InReach (B.state blocks.old).holdings.size level index }
     requires plan { IsPlan (B.state blocks.old) plan.now }
+    requires long { length plan.now.node.pointers ≡ 16 }
     requires pointer { IsTrue (B.state blocks.old).tells → pointer ≡ planned_pointer plan.now (B.state blocks.old) level index }
     ensures part { IfOk result (λ part. IsTrue (B.state blocks.new).tells
         → level ≤ levels_for (B.state blocks.old).holdings.size (leaves_after (B.state blocks.old).holdings.size plan.now.change)
@@ -84,8 +87,7 @@ fn part_at<B: Blocks>(
         return Ok(part_of_leaf(blocks, plan, index, pointer));
     }
     let words = blocks.size() / 4;
-    let mut pointers = [ABSENT; 1024];
-    pointers_below(blocks, plan, level, index, pointer, &mut pointers[0..words])?;
+    let pointers = all_below(blocks, plan, level, index, pointer)?;
     let mut part = Part {
         need: 0,
         changed: false,
@@ -100,9 +102,36 @@ fn part_at<B: Blocks>(
     Ok(part)
 }
 
+// The pointers to the blocks below block `index` of a level, with absent ones behind them.
+fn all_below<B: Blocks>(
+    blocks: &mut B,
+    plan: &Plan,
+    level: u8,
+    index: u64,
+    pointer: u32,
+) -> Result<[u32; 1024], Stop>
+    requires level { 0 < level }
+    requires consistent { IsConsistent (B.state blocks.old) }
+    requires plan { IsPlan (B.state blocks.old) plan.now }
+    requires pointer { IsTrue (B.state blocks.old).tells → pointer ≡ planned_pointer plan.now (B.state blocks.old) level index }
+    ensures long { IfOk result (λ below. length below ≡ 1024) }
+    ensures pointers { IfOk result (λ below. IsTrue (B.state blocks.new).tells → (w : ℕ) → w < per_block (B.state blocks.old).holdings.size
+        → slice_index below w ≡ planned_pointer plan.now (B.state blocks.old) (level - 1) (index * per_block (B.state blocks.old).holdings.size + w)) }
+
+    ensures keeps { Keeps (B.state blocks.old) (B.state blocks.new) }
+    ensures aside { B.Blocks.aside blocks.new ≡ B.Blocks.aside blocks.old }
+    ensures cause { HasStopCause (B.faults blocks.old) (B.faults blocks.new) result }
+{
+    let words = blocks.size() / 4;
+    let mut pointers = [ABSENT; 1024];
+    pointers_below(blocks, plan, level, index, pointer, &mut pointers[0..words])?;
+    Ok(pointers)
+}
+
 // The part of a leaf.
 fn part_of_leaf<B: Blocks>(blocks: &B, plan: &Plan, index: u64, pointer: u32) -> Part
     requires plan { IsPlan (B.state blocks.now) plan.now }
+    requires long { length plan.now.node.pointers ≡ 16 }
     requires pointer { IsTrue (B.state blocks.now).tells → pointer ≡ planned_pointer plan.now (B.state blocks.now) 0 index }
     ensures part { IsTrue (B.state blocks.now).tells → result ≡ part_of (alteration_in plan.now (B.state blocks.now)) 0 index }
     ensures few { result.need ≤ 1 }
@@ -124,8 +153,10 @@ fn alike_part<B: Blocks>(
     index: u64,
     pointer: u32,
 ) -> Option<Part>
+    requires consistent { IsConsistent (B.state blocks.now) }
     requires reach { InReach (B.state blocks.now).holdings.size level index }
     requires plan { IsPlan (B.state blocks.now) plan.now }
+    requires long { length plan.now.node.pointers ≡ 16 }
     requires pointer { IsTrue (B.state blocks.now).tells → pointer ≡ planned_pointer plan.now (B.state blocks.now) level index }
     ensures part { IfSome result (λ part. IsTrue (B.state blocks.now).tells
         → level ≤ levels_for (B.state blocks.now).holdings.size (leaves_after (B.state blocks.now).holdings.size plan.now.change)

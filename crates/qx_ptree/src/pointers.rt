@@ -100,6 +100,7 @@ pub(crate) fn top_pointers<B: Blocks>(
 ) -> Result<[u32; 16], Stop>
     requires consistent { IsConsistent (B.state blocks.old) }
     requires plan { IsPlan (B.state blocks.old) plan.now }
+    ensures long { length plan.now.node.pointers ≡ 16 }
     ensures pointers { IfOk result (λ top. IsTrue (B.state blocks.new).tells → (j : ℕ) → j < 16
         → slice_index top j ≡ planned_pointer plan.now (B.state blocks.old) level j) }
 
