@@ -1,0 +1,5 @@
+pub mod ListedBlocks
+pub mod OtherBlocks
+pub mod TakenBlocks
+pub mod GivenUp
+pub mod AddedWork
