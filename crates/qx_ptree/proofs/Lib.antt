@@ -2,4 +2,5 @@ pub mod ListedBlocks
 pub mod OtherBlocks
 pub mod TakenBlocks
 pub mod GivenUp
+pub mod WrittenEdits
 pub mod AddedWork
