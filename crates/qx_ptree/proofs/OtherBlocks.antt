@@ -2,10 +2,10 @@
 use Rattle.std.proofs.Common.{◌≡◌, ℕ, [], ◌∷◌, ◌++◌, List, refl, ◌∙◌}
 use Rattle.std.specs.Prelude.{true, false, Contains, if◌then◌else◌}
 use Rattle.qx_geom.specs.Lists.{is_in}
-use Rattle.qx_geom.proofs.Members.{Contains-cons, Contains-head, in_head, in_tail}
+use Rattle.qx_geom.proofs.Members.{Contains-cons, Contains-head, in_head, in_left, in_right, in_tail}
 use Rattle.qx_blocks.specs.BlockState.{BlockState, with_bytes, with_free, with_shared, without}
 use Rattle.qx_ptree.specs.Takings.{LeavesOthers}
-use Rattle.qx_ptree.specs.WorkState.{EditState, given_up, with_edits, without_all}
+use Rattle.qx_ptree.specs.WorkState.{EditState, WorkState, all_blocks, given_up, with_edits, without_all}
 use Rattle.qx_ptree.proofs.ListedBlocks.{differs, out_within, put-other}
 
 -- nothing changes
@@ -118,3 +118,18 @@ LeavesOthers-with_edits bs m (e ∷ es) within =
     LeavesOthers-then bs m (with_bytes m e.block e.bytes) (with_edits (with_bytes m e.block e.bytes) es)
     (LeavesOthers-with_bytes bs m e.block e.bytes (within e (Contains-head e es)))
     (LeavesOthers-with_edits bs (with_bytes m e.block e.bytes) es (λ d h. within d (Contains-cons e d es h)))
+
+-- a block that stays is one of the work
+pub kept_among : (work : WorkState) (b : ℕ) → is_in work.kept b ≡ true → is_in (all_blocks work) b ≡ true
+kept_among work b h = in_right work.fresh (work.kept ++ work.released) b (in_left work.kept work.released b h)
+
+-- and so is one that is to be given up
+pub released_among : (work : WorkState) (b : ℕ) → is_in work.released b ≡ true → is_in (all_blocks work) b ≡ true
+released_among work b h = in_right work.fresh (work.kept ++ work.released) b (in_right work.kept work.released b h)
+
+-- what is done to the blocks that stay, and then to those that are given up, leaves all but those of the work
+pub LeavesOthers-work : (work : WorkState) (m n o : BlockState) → LeavesOthers work.kept m n → LeavesOthers work.released n o → LeavesOthers (all_blocks work) m o
+LeavesOthers-work work m n o f g =
+    LeavesOthers-then (all_blocks work) m n o
+    (LeavesOthers-within work.kept (all_blocks work) m n (kept_among work) f)
+    (LeavesOthers-within work.released (all_blocks work) n o (released_among work) g)
