@@ -4,3 +4,4 @@ pub mod TakenBlocks
 pub mod GivenUp
 pub mod WrittenEdits
 pub mod AddedWork
+pub mod ReadyPaths
