@@ -4,4 +4,5 @@ pub mod TakenBlocks
 pub mod GivenUp
 pub mod WrittenEdits
 pub mod AddedWork
+pub mod PreparedBlocks
 pub mod ReadyPaths
