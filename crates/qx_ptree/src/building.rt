@@ -328,7 +328,6 @@ fn edit_block<B: Blocks>(
         edits = work.old.edits ++ (record { block = pointer; bytes = pointer_bytes order pointers.now }) ∷ [];
         kept = work.old.kept ++ pointer ∷ [];
     }) }
-    ensures size { length (pointer_bytes order pointers.now) ≡ (B.state blocks.new).holdings.size }
 
     ensures err { OnErr result (Adds (B.state blocks.old) (B.state blocks.new) work.old work.new) }
     ensures aside { B.Blocks.aside blocks.new ≡ B.Blocks.aside blocks.old }
