@@ -85,6 +85,13 @@ block_filled m pointers k long = elim k.size [
 pub pointer_bytes-length : (order : Order) (m : BlockState) (pointers : List ℕ) → IsConsistent m → length pointers ≡ per_block m.holdings.size → length (pointer_bytes order pointers) ≡ m.holdings.size
 pointer_bytes-length order m pointers k long = length_all_digits order 4 pointers ∙ block_filled m pointers k long
 
+-- pointers that were put into a whole block are its bytes, as many as it has
+pub whole_put : (order : Order) (m : BlockState) (into new pointers : List ℕ) → IsConsistent m → length pointers ≡ per_block m.holdings.size → length into ≡ m.holdings.size → new ≡ put_fields order 4 into 0 pointers
+    → (new ≡ pointer_bytes order pointers) × (length new ≡ m.holdings.size)
+whole_put order m into new pointers k long room put =
+    let is : new ≡ pointer_bytes order pointers = put ∙ whole_bytes order into pointers (room ∙ sym (block_filled m pointers k long)) in
+    (is, ap length is ∙ pointer_bytes-length order m pointers k long)
+
 -- as many bytes written over a Vec's are what it has
 pub written_over : (n : ℕ) (new rest : List ℕ) → n ≡ length new → take n (new ++ rest) ≡ new
 written_over n new rest long = ap (λ k. take k (new ++ rest)) long ∙ take-append_seam new rest

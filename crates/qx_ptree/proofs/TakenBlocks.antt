@@ -3,7 +3,7 @@ use Rattle.std.proofs.Common.{◌≡◌, ℕ, ◌+◌, ◌-◌, ◌<◌, inl, in
 use Rattle.std.specs.Prelude.{true, false, ◌||◌, IsTrue, Contains, replicate}
 use Rattle.std.proofs.Math.Bool.{or-false}
 use Rattle.std.proofs.lemmas.Bool.{or_cases}
-use Rattle.std.proofs.lemmas.List.{length-append}
+use Rattle.std.proofs.lemmas.List.{append-nil, length-append}
 use Rattle.qx_geom.specs.Lists.{Distinct, is_in}
 use Rattle.qx_geom.proofs.Truths.{not_so, or_left, true_or_false}
 use Rattle.qx_geom.proofs.Members.{in_append_cases, in_cases}
@@ -180,3 +180,11 @@ Takes-then fs gs m n o f g = record {
 } where
   later : (q : ℕ) → IsTrue (n.holdings.ready q) → IsTrue (o.holdings.ready q)
   later q r = g.ready q (either_left (n.holdings.ready q) (is_in gs q) r)
+
+-- a call that takes nothing, and one that takes blocks
+pub Takes-after : (fresh : List ℕ) (m n o : BlockState) → Keeps m n → Takes fresh n o → Takes fresh m o
+Takes-after fresh m n o k g = Takes-then [] fresh m n o (Takes-none m n k) g
+
+-- a call that takes blocks, and one that takes nothing
+pub Takes-before : (fresh : List ℕ) (m n o : BlockState) → Takes fresh m n → Keeps n o → Takes fresh m o
+Takes-before fresh m n o f k = subst (λ (l : List ℕ). Takes l m o) (append-nil fresh) (Takes-then fresh [] m n o f (Takes-none n o k))

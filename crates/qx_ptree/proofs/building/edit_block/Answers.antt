@@ -1,8 +1,8 @@
-use Rattle.std.proofs.Common.{◌≡◌, ◌∙◌, ◌++◌, ap, sym, refl, length, take, drop}
+use Rattle.std.proofs.Common.{◌≡◌, ◌∙◌, ◌++◌, ap, sym, refl, length, take, drop, vec_len}
 use Rattle.std.proofs.lemmas.Result.{on_err_weaker}
 use Rattle.qx_ptree.specs.Building.{pointer_bytes}
 use Rattle.qx_ptree.proofs.AddedWork.{adds_kept, adds_none}
-use Rattle.qx_ptree.proofs.PreparedBlocks.{at_err, block_filled, edit_noted, pointer_bytes-length, whole_bytes, written_over}
+use Rattle.qx_ptree.proofs.PreparedBlocks.{at_err, edit_noted, whole_put, written_over}
 use Rattle.qx_ptree.proofs.TakenBlocks.{Takes-none, Takes-same}
 use Rattle.qx_ptree.proofs.building.edit_block.Goals as goal
 
@@ -19,14 +19,11 @@ returns-in_err-keep-clause-err g c =
 pub returns-clause-noted : goal.returns-clause-noted
 returns-clause-noted g c =
     let m = g.B.Blocks.state c.args.blocks.now in
-    let room : length c.as_mut_slice.result.now ≡ m.holdings.size = c.as_mut_slice.ensures.len ∙ c.in_ok-bytes.ensures.len ∙ c.size.ensures.size in
-    let new : c.put32s.new.into ≡ pointer_bytes c.args.order c.args.pointers.now
-    = c.put32s.ensures.bytes ∙ whole_bytes c.args.order c.as_mut_slice.result.now c.args.pointers.now (room ∙ sym (block_filled m c.args.pointers.now c.size.ensures.consistent c.requires.long)) in
-    let long : c.in_ok-bytes.bytes.len ≡ length c.put32s.new.into
-    = c.in_ok-bytes.ensures.len ∙ c.size.ensures.size ∙ sym (ap length new ∙ pointer_bytes-length c.args.order m c.args.pointers.now c.size.ensures.consistent c.requires.long) in
+    let sized : vec_len c.in_ok-bytes.bytes ≡ m.holdings.size = c.in_ok-bytes.ensures.len ∙ c.size.ensures.size in
+    let put = whole_put c.args.order m c.as_mut_slice.result.now c.put32s.new.into c.args.pointers.now c.size.ensures.consistent c.requires.long (c.as_mut_slice.ensures.len ∙ sized) c.put32s.ensures.bytes in
     edit_noted c.edit_later.result c.args.work.now c.keep.new.self c.edit_later.new.self c.args.pointer
     (take c.in_ok-bytes.bytes.len (c.put32s.new.into ++ drop (length c.put32s.new.into) c.in_ok-bytes.bytes.items)) (pointer_bytes c.args.order c.args.pointers.now) c.in_ok-keep.ensures.noted
-    (written_over c.in_ok-bytes.bytes.len c.put32s.new.into (drop (length c.put32s.new.into) c.in_ok-bytes.bytes.items) long ∙ new) c.edit_later.ensures.noted
+    (written_over c.in_ok-bytes.bytes.len c.put32s.new.into (drop (length c.put32s.new.into) c.in_ok-bytes.bytes.items) (sized ∙ sym put.1) ∙ put.0) c.edit_later.ensures.noted
 
 pub returns-clause-err : goal.returns-clause-err
 returns-clause-err g c =
