@@ -1,22 +1,20 @@
 -- What is prepared at one block.
 use Rattle.std.proofs.Common.{◌≡◌, ℕ, ◌+◌, ◌*◌, ◌<◌, inl, inr, [], ◌∷◌, ◌++◌, List, length, refl, sym, ◌∙◌, ap, subst, arith, Ok, Err}
-use Rattle.std.specs.Prelude.{Bool, true, false, IsTrue, IfOk, OnErr, OnOk, Result, replicate, take, drop}
+use Rattle.std.specs.Prelude.{Bool, true, false, IsTrue, IfOk, OnErr, OnOk, Result, replicate, take}
 use Rattle.std.proofs.Math.Seq.{take-append_seam}
 use Rattle.std.proofs.lemmas.List.{append-nil, drop_all}
 use Rattle.qx_fields.specs.declared.order.Order.{Order}
-use Rattle.qx_fields.specs.Number.{all_digits, put_fields}
+use Rattle.qx_fields.specs.Number.{put_fields}
 use Rattle.qx_fields.proofs.Fields.{length_all_digits}
-use Rattle.qx_geom.specs.Lists.{is_in}
 use Rattle.qx_geom.specs.Pointer.{absent, per_block}
-use Rattle.qx_geom.proofs.Members.{in_head}
 use Rattle.qx_blocks.specs.declared.blocks.Stop.{Stop}
 use Rattle.qx_blocks.specs.BlockState.{BlockState, IsConsistent, put, with_bytes, with_fresh}
 use Rattle.qx_blocks.specs.Calls.{Keeps, MakesReady}
-use Rattle.qx_ptree.specs.Building.{BlockWork, LeafWork, WritesBlock, WritesLeaf, pointer_bytes, work_edited, work_kept, work_lost, work_moved, work_taken}
+use Rattle.qx_ptree.specs.Building.{BlockWork, LeafWork, WritesBlock, WritesLeaf, pointer_bytes}
 use Rattle.qx_ptree.specs.Takings.{Adds, Takes}
 use Rattle.qx_ptree.specs.WorkState.{WorkState}
 use Rattle.qx_ptree.proofs.ListedBlocks.{put-at}
-use Rattle.qx_ptree.proofs.TakenBlocks.{Takes-fresh, Takes-none, Takes-one, Takes-ready, Takes-same, Takes-written}
+use Rattle.qx_ptree.proofs.TakenBlocks.{Takes-fresh, Takes-none, Takes-same}
 use Rattle.qx_ptree.proofs.AddedWork.{adds_edited, adds_kept, adds_lost, adds_moved, adds_none, adds_taken}
 
 -- ---- any result

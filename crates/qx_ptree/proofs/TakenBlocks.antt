@@ -1,18 +1,18 @@
 -- Calls that take blocks and change no others, one after another.
-use Rattle.std.proofs.Common.{◌≡◌, ℕ, ◌+◌, ◌-◌, ◌<◌, inl, inr, [], ◌∷◌, ◌++◌, List, length, refl, sym, ◌∙◌, ap, subst, arith}
-use Rattle.std.specs.Prelude.{true, false, ◌||◌, IsTrue, Contains, replicate}
+use Rattle.std.proofs.Common.{◌≡◌, ℕ, ◌<◌, inl, inr, [], ◌∷◌, ◌++◌, List, refl, sym, ◌∙◌, ap, subst, arith}
+use Rattle.std.specs.Prelude.{true, false, IsTrue, replicate}
 use Rattle.std.proofs.Math.Bool.{or-false}
 use Rattle.std.proofs.lemmas.Bool.{or_cases}
 use Rattle.std.proofs.lemmas.List.{append-nil, length-append}
-use Rattle.qx_geom.specs.Lists.{Distinct, is_in}
+use Rattle.qx_geom.specs.Lists.{is_in}
 use Rattle.qx_geom.proofs.Truths.{not_so, or_left, true_or_false}
 use Rattle.qx_geom.proofs.Members.{in_append_cases, in_cases}
 use Rattle.qx_geom.proofs.DistinctElements.{Distinct-append}
 use Rattle.qx_geom.proofs.ImagesAndFilters.{in_Contains}
-use Rattle.qx_blocks.specs.BlockState.{BlockState, IsConsistent, put, with_bytes, with_fresh, with_ready}
+use Rattle.qx_blocks.specs.BlockState.{BlockState, IsConsistent, put, with_bytes, with_fresh}
 use Rattle.qx_blocks.specs.Calls.{Keeps, MakesReady}
 use Rattle.qx_ptree.specs.Takings.{Takes}
-use Rattle.qx_ptree.proofs.ListedBlocks.{differs, either_left, either_right, is_in-append, more_pass, put-or, put-other}
+use Rattle.qx_ptree.proofs.ListedBlocks.{either_left, either_right, more_pass, put-or, put-other}
 
 -- a block that can be written at once is held
 pub ready_held : (m : BlockState) (b : ℕ) → IsConsistent m → IsTrue (m.holdings.ready b) → IsTrue (m.holdings.held b)
@@ -89,10 +89,13 @@ Takes-one m n b bytes k unheld some holdings told ready = record {
 } where
   no_holder : (q : ℕ) → is_in (b ∷ []) q ≡ true → m.holdings.held q ≡ false
   no_holder q t = elim (in_cases b q [] t) [ inl is ↦ ap m.holdings.held (sym is) ∙ unheld | inr rest ↦ absurd (cc rest) ]
+
   no_worker : (q : ℕ) → is_in (b ∷ []) q ≡ true → m.holdings.works q ≡ false
   no_worker q t = not_so (m.holdings.works q) (λ w. true_or_false (m.holdings.held q) (k.works_held q w) (no_holder q t))
+
   no_private : (q : ℕ) → is_in (b ∷ []) q ≡ true → m.holdings.private q ≡ false
   no_private q t = not_so (m.holdings.private q) (λ w. true_or_false (m.holdings.held q) (k.works_held q (k.private_works q w)) (no_holder q t))
+
   apart_twice : (q : ℕ) → (q ≡ b → ⊥) → put (put m.bytes b (replicate m.holdings.size 0)) b bytes q ≡ m.bytes q
   apart_twice q ne = put-other (put m.bytes b (replicate m.holdings.size 0)) b q bytes ne ∙ put-other m.bytes b q (replicate m.holdings.size 0) ne
 
@@ -128,7 +131,7 @@ Takes-fresh m b k unheld some = record {
   unused = λ q t. (
     not_so (m.holdings.works q) (λ w. true_or_false (m.holdings.held q) (k.works_held q w) (no_holder q t)),
     not_so (m.holdings.private q) (λ w. true_or_false (m.holdings.held q) (k.works_held q (k.private_works q w)) (no_holder q t)),
-    not_so (m.holdings.ready q) (λ r. true_or_false (m.holdings.held q) (ready_held m q k r) (no_holder q t))
+    not_so (m.holdings.ready q) (λ r. true_or_false (m.holdings.held q) (ready_held m q k r) (no_holder q t)),
   );
   distinct = (λ c. absurd (omega (arith, c.1)), tt);
   free = omega arith;
@@ -139,6 +142,7 @@ Takes-fresh m b k unheld some = record {
 } where
   no_holder : (q : ℕ) → is_in (b ∷ []) q ≡ true → m.holdings.held q ≡ false
   no_holder q t = elim (in_cases b q [] t) [ inl is ↦ ap m.holdings.held (sym is) ∙ unheld | inr rest ↦ absurd (cc rest) ]
+
   other : (q : ℕ) → IsTrue (m.holdings.held q) → put m.bytes b (replicate m.holdings.size 0) q ≡ m.bytes q
   other q held = put-other m.bytes b q (replicate m.holdings.size 0) (λ e. true_or_false (m.holdings.held b) (ap m.holdings.held (sym e) ∙ held) unheld)
 
@@ -166,12 +170,12 @@ Takes-then fs gs m n o f g = record {
     | inr second ↦ (
       or_left (m.holdings.works q) (is_in fs q) (sym (f.works q) ∙ (g.unused q second).0),
       or_left (m.holdings.private q) (is_in fs q) (sym (f.private q) ∙ (g.unused q second).1),
-      not_so (m.holdings.ready q) (λ r. true_or_false (n.holdings.ready q) (f.ready q (either_left (m.holdings.ready q) (is_in fs q) r)) (g.unused q second).2)
+      not_so (m.holdings.ready q) (λ r. true_or_false (n.holdings.ready q) (f.ready q (either_left (m.holdings.ready q) (is_in fs q) r)) (g.unused q second).2),
     )
   ];
   distinct = Distinct-append fs gs f.distinct g.distinct (λ x a b. true_or_false (n.holdings.held x)
-    (f.held x ∙ either_right (m.holdings.held x) (is_in fs x) (in_Contains fs x a))
-    (g.unheld x (in_Contains gs x b)));
+      (f.held x ∙ either_right (m.holdings.held x) (is_in fs x) (in_Contains fs x a))
+      (g.unheld x (in_Contains gs x b)));
   free = omega (arith, f.free, g.free, length-append fs gs);
   ready_bytes = λ q r. g.ready_bytes q (f.ready q (either_left (m.holdings.ready q) (is_in fs q) r)) ∙ f.ready_bytes q r;
   told_before = λ t. f.told_before (g.told_before t);

@@ -1,4 +1,4 @@
-use Rattle.std.proofs.Common.{◌≡◌, ◌∙◌, ◌++◌, ap, sym, refl, length, take, drop, vec_len}
+use Rattle.std.proofs.Common.{◌≡◌, ◌∙◌, ◌++◌, sym, refl, length, take, drop, vec_len}
 use Rattle.std.proofs.lemmas.Result.{on_err_weaker}
 use Rattle.qx_ptree.specs.Building.{pointer_bytes}
 use Rattle.qx_ptree.proofs.AddedWork.{adds_kept, adds_none}

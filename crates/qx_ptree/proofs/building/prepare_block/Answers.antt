@@ -1,4 +1,4 @@
-use Rattle.std.proofs.Common.{◌≡◌, ◌∙◌, ap, sym, refl}
+use Rattle.std.proofs.Common.{◌≡◌, ◌∙◌, ap, sym}
 use Rattle.qx_blocks.specs.BlockState.{Holdings}
 use Rattle.qx_ptree.proofs.AddedWork.{adds_none, adds_taken}
 use Rattle.qx_ptree.proofs.PreparedBlocks.{at_err, block_edited, block_lost, block_moved, block_never, block_same, block_taken, err_keeps, pointer_bytes-length}

@@ -1,7 +1,6 @@
 use Rattle.std.proofs.Common.{◌≡◌, ◌∙◌, ap, sym, refl, length}
 use Rattle.std.specs.Prelude.{true, IsTrue}
-use Rattle.qx_blocks.specs.BlockState.{BlockState, with_bytes}
-use Rattle.qx_ptree.specs.Building.{pointer_bytes}
+use Rattle.qx_blocks.specs.BlockState.{BlockState}
 use Rattle.qx_ptree.proofs.ListedBlocks.{put-at}
 use Rattle.qx_ptree.proofs.PreparedBlocks.{whole_put}
 use Rattle.qx_ptree.proofs.building.take_filled.Goals as goal
