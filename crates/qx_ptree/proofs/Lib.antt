@@ -23,3 +23,11 @@ pub mod PreparedNodes
 pub mod KeptPlans
 pub mod PlannedParts
 pub mod EmptyNodes
+pub mod ListedBlocks
+pub mod OtherBlocks
+pub mod TakenBlocks
+pub mod GivenUp
+pub mod WrittenEdits
+pub mod AddedWork
+pub mod PreparedBlocks
+pub mod ReadyPaths
