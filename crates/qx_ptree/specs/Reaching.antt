@@ -1,0 +1,31 @@
+-- What was prepared above written leaves below some blocks of one level, whether bytes are told or not.
+use Rattle.std.specs.Prelude.{◌≡◌, ℕ, ◌++◌, List, true, Contains}
+use Rattle.qx_geom.specs.Lists.{Distinct, is_in}
+use Rattle.qx_geom.specs.Pointer.{per_block}
+use Rattle.qx_blocks.specs.BlockState.{BlockState}
+use Rattle.qx_ptree.specs.declared.fresh_blocks.Plan.{Plan}
+use Rattle.qx_ptree.specs.Building.{LiesUnder, Row, new_pointer}
+use Rattle.qx_ptree.specs.ReadyLeaves.{IsAbove, IsWrittenBy}
+use Rattle.qx_ptree.specs.WorkState.{EditState, WorkState}
+
+-- what is prepared has come about at the blocks of the work
+pub record ShowsOwn (n : BlockState) (work : WorkState) (bytes : ℕ → List ℕ) : Type 0 where
+  pub fresh : (b : ℕ) → is_in work.fresh b ≡ true → bytes b ≡ n.bytes b
+  pub edits : (e : EditState) → Contains work.edits e → bytes e.block ≡ e.bytes
+
+-- the blocks of the work that stay
+abbrev pub own_blocks : WorkState → List ℕ
+own_blocks work = work.fresh ++ work.kept
+
+-- block j of a level below a row stands at a written leaf or above one
+pub record IsOwnPosition (m : BlockState) (plan : Plan) (row : Row) (k j : ℕ) : Type 0 where
+  pub under : LiesUnder (per_block m.holdings.size) row k j
+  pub above : IsAbove m.holdings.size (IsWrittenBy plan.change) k j
+
+-- from the blocks m to the blocks n this work was done below a row, whose new pointers are `tops`: the block at a written leaf, and each above one, is the work's own, and where its blocks are distinct none stands at two such positions
+pub record Reaches (m n : BlockState) (plan : Plan) (work : WorkState) (row : Row) (tops : ℕ → ℕ) : Type 0 where
+  pub own : (bytes : ℕ → List ℕ) → ShowsOwn n work bytes → (k j : ℕ) → IsOwnPosition m plan row k j → is_in (own_blocks work) (new_pointer m plan row tops bytes k j) ≡ true
+  pub apart : (bytes : ℕ → List ℕ) → ShowsOwn n work bytes → Distinct (own_blocks work) → (k j h i : ℕ) → IsOwnPosition m plan row k j → IsOwnPosition m plan row h i
+      → new_pointer m plan row tops bytes k j ≡ new_pointer m plan row tops bytes h i → (k ≡ h) × (j ≡ i)
+  pub edit_once : Distinct (own_blocks work) → (e f : EditState) → Contains work.edits e → Contains work.edits f → e.block ≡ f.block → e ≡ f
+  pub edits_kept : (e : EditState) → Contains work.edits e → is_in work.kept e.block ≡ true
