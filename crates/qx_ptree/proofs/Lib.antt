@@ -7,3 +7,10 @@ pub mod WholeNeed
 pub mod FullParts
 pub mod PartBounds
 pub mod ReachedLeaves
+pub mod PointerCounts
+pub mod WorkingPaths
+pub mod ReadPointers
+pub mod PointersByPosition
+pub mod MetPositions
+pub mod PresentPositions
+pub mod PlannedPointers
