@@ -2,6 +2,7 @@
 ghost use Rattle.std.specs.Prelude.{◌≡◌, ◌<◌, ◌≤◌, ◌+◌, ◌-◌, ◌*◌, ◌==◌, ℕ, length, if◌then◌else◌, IfOk, OnOk, IsTrue, slice_index};
 ghost use Rattle.qx_geom.specs.Pointer.{absent, per_block};
 ghost use Rattle.qx_nodes.specs.BlockMap.{word};
+ghost use Rattle.qx_blocks.specs.BlockState.{IsConsistent};
 ghost use Rattle.qx_blocks.specs.Calls.{HasStopCause, Keeps};
 ghost use Rattle.qx_ptree.specs.Trees.{Leads, block_map};
 ghost use Rattle.qx_ptree.specs.Plans.{IsPlan, planned_pointer};
@@ -9,18 +10,27 @@ ghost use Rattle.qx_ptree.specs.Plans.{IsPlan, planned_pointer};
 use crate::fresh_blocks::Plan;
 use qx_blocks::{Blocks, Stop};
 use qx_fields::{Order, get32s};
-use qx_geom::ABSENT;
+use qx_geom::{ABSENT, Root};
 
 // Where bytes aren't told, a pointer to a block that the tree doesn't hold counts as absent.
 pub(crate) fn leading<B: Blocks>(blocks: &B, pointer: u32) -> u32
     ensures works { ¬ (result ≡ absent) → IsTrue ((B.state blocks.now).holdings.works result) }
     ensures same { Leads (B.state blocks.now) pointer → result ≡ pointer }
+    ensures consistent { IsConsistent (B.state blocks.now) }
 {
     if blocks.works(pointer) {
         pointer
     } else {
         ABSENT
     }
+}
+
+// A node's own pointers, of which there are 16.
+pub(crate) fn own_pointers(node: Root) -> [u32; 16]
+    ensures own { result ≡ node.pointers }
+    ensures long { length node.pointers ≡ 16 }
+{
+    node.pointers
 }
 
 // Fills in the pointers of a pointer block from its first on, or absent ones where there is no block.
@@ -61,6 +71,7 @@ pub(crate) fn pointers_below<B: Blocks>(
 ) -> Result<(), Stop>
     requires level { 0 < level }
     requires room { length into.old ≡ per_block (B.state blocks.old).holdings.size }
+    requires consistent { IsConsistent (B.state blocks.old) }
     requires plan { IsPlan (B.state blocks.old) plan.now }
     requires pointer { IsTrue (B.state blocks.old).tells → pointer ≡ planned_pointer plan.now (B.state blocks.old) level index }
     ensures long { length into.new ≡ length into.old }
@@ -71,12 +82,13 @@ pub(crate) fn pointers_below<B: Blocks>(
     ensures aside { B.Blocks.aside blocks.new ≡ B.Blocks.aside blocks.old }
     ensures cause { HasStopCause (B.faults blocks.old) (B.faults blocks.new) result }
 {
+    let own = own_pointers(plan.node);
     if level != plan.node.levels + 1 || index != 0 {
         return read_pointers(blocks, plan.order, pointer, into);
     }
     // A level more takes the node's own pointers below its first block.
     into.fill(ABSENT);
-    into[0..16].copy_from_slice(&plan.node.pointers);
+    into[0..16].copy_from_slice(&own);
     Ok(())
 }
 
@@ -86,6 +98,7 @@ pub(crate) fn top_pointers<B: Blocks>(
     plan: &Plan,
     level: u8,
 ) -> Result<[u32; 16], Stop>
+    requires consistent { IsConsistent (B.state blocks.old) }
     requires plan { IsPlan (B.state blocks.old) plan.now }
     ensures pointers { IfOk result (λ top. IsTrue (B.state blocks.new).tells → (j : ℕ) → j < 16
         → slice_index top j ≡ planned_pointer plan.now (B.state blocks.old) level j) }
@@ -94,10 +107,10 @@ pub(crate) fn top_pointers<B: Blocks>(
     ensures aside { B.Blocks.aside blocks.new ≡ B.Blocks.aside blocks.old }
     ensures cause { HasStopCause (B.faults blocks.old) (B.faults blocks.new) result }
 {
+    let mut pointers = own_pointers(plan.node);
     if plan.node.levels < level {
         return Ok([ABSENT; 16]);
     }
-    let mut pointers = plan.node.pointers;
     for _ in level..plan.node.levels {
         let first = pointers[0];
         read_pointers(blocks, plan.order, first, &mut pointers)?;

@@ -1,0 +1,16 @@
+pub mod SumsBelow
+pub mod OwnPositions
+pub mod PartsOfBlocks
+pub mod LeafParts
+pub mod AlikeParts
+pub mod WholeNeed
+pub mod FullParts
+pub mod PartBounds
+pub mod ReachedLeaves
+pub mod PointerCounts
+pub mod WorkingPaths
+pub mod ReadPointers
+pub mod PointersByPosition
+pub mod MetPositions
+pub mod PresentPositions
+pub mod PlannedPointers
