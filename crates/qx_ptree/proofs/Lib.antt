@@ -14,3 +14,5 @@ pub mod PointersByPosition
 pub mod MetPositions
 pub mod PresentPositions
 pub mod PlannedPointers
+pub mod UnderRows
+pub mod DistinctBlocks
