@@ -6,10 +6,12 @@ use Rattle.std.specs.Ordering.{is_lt, nat_cmp}
 use Rattle.std.proofs.lemmas.Bool.{eq-eqb, eqb-true, ltb-false}
 use Rattle.std.proofs.lemmas.List.{get_or_default}
 use Rattle.std.proofs.lemmas.List.Elements.{Contains-get_or}
-use Rattle.std.proofs.lemmas.List.Sums.{sum_by-cons}
+use Rattle.std.proofs.lemmas.List.Sums.{sum_by-append, sum_by-cons}
 use Rattle.std.proofs.lemmas.List.Sorted.{IsPermutation-sym, sum_by-IsPermutation}
 use Rattle.qx_geom.proofs.Members.{Contains-cases, Contains-cons, Contains-head}
-use Rattle.qx_geom.specs.Lists.{Distinct}
+use Rattle.qx_geom.proofs.ImagesAndFilters.{Contains-in}
+use Rattle.qx_geom.proofs.Truths.{not_so}
+use Rattle.qx_geom.specs.Lists.{Distinct, is_in}
 
 -- ---- how often a block stands in a list
 
@@ -108,3 +110,34 @@ pub twins_tell : (all xs sorted : List ℕ) (r : Bool) → xs ≡ all → IsPerm
 twins_tell all xs sorted r is p up tells =
     (λ e. subst Distinct is (distinct_permuted sorted xs (IsPermutation-sym xs sorted p) (sorted_distinct sorted up (tells.0 e))),
     λ d. tells.1 (distinct_apart sorted (distinct_permuted xs sorted p (subst Distinct (sym is) d))))
+
+-- ---- parts of lists
+
+-- how often a block stands in two lists end to end
+count_append : (x : ℕ) (xs ys : List ℕ) → count_by (λ z. z == x) (xs ++ ys) ≡ count_by (λ z. z == x) xs + count_by (λ z. z == x) ys
+count_append x xs ys = sum_by-append (λ z. once (z == x)) xs ys
+
+-- where two pairs of lists are joined side by side
+count_pairs : (x : ℕ) (a b c d : List ℕ) → count_by (λ z. z == x) ((a ++ b) ++ (c ++ d)) ≡ count_by (λ z. z == x) (a ++ c) + count_by (λ z. z == x) (b ++ d)
+count_pairs x a b c d = omega (arith, count_append x (a ++ b) (c ++ d), count_append x a b, count_append x c d, count_append x a c, count_append x b d)
+
+-- without doubles, so is each pair
+pub distinct_first : (a b c d : List ℕ) → Distinct ((a ++ b) ++ (c ++ d)) → Distinct (a ++ c)
+distinct_first a b c d whole = once_distinct (a ++ c) (λ x. omega (arith, count_pairs x a b c d, distinct_once ((a ++ b) ++ (c ++ d)) whole x))
+
+pub distinct_second : (a b c d : List ℕ) → Distinct ((a ++ b) ++ (c ++ d)) → Distinct (b ++ d)
+distinct_second a b c d whole = once_distinct (b ++ d) (λ x. omega (arith, count_pairs x a b c d, distinct_once ((a ++ b) ++ (c ++ d)) whole x))
+
+-- and no block is one of both
+pub distinct_between : (a b c d : List ℕ) (x : ℕ) → Distinct ((a ++ b) ++ (c ++ d)) → is_in (a ++ c) x ≡ true → is_in (b ++ d) x ≡ true → ⊥
+distinct_between a b c d x whole first second =
+    omega (arith, count_pairs x a b c d, distinct_once ((a ++ b) ++ (c ++ d)) whole x, counted (a ++ c) x (Contains-in (a ++ c) x first), counted (b ++ d) x (Contains-in (b ++ d) x second))
+
+-- the first of two lists
+pub distinct_left : (xs ys : List ℕ) → Distinct (xs ++ ys) → Distinct xs
+distinct_left xs ys whole = once_distinct xs (λ x. omega (arith, count_append x xs ys, distinct_once (xs ++ ys) whole x))
+
+-- no block is in both
+pub distinct_apart_lists : (xs ys : List ℕ) (x : ℕ) → Distinct (xs ++ ys) → is_in xs x ≡ true → is_in ys x ≡ false
+distinct_apart_lists xs ys x whole first =
+    not_so (is_in ys x) (λ second. omega (arith, count_append x xs ys, distinct_once (xs ++ ys) whole x, counted xs x (Contains-in xs x first), counted ys x (Contains-in ys x second)))

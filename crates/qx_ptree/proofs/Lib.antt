@@ -16,3 +16,4 @@ pub mod PresentPositions
 pub mod PlannedPointers
 pub mod UnderRows
 pub mod DistinctBlocks
+pub mod OwnedPositions
