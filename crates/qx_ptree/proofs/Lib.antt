@@ -17,3 +17,4 @@ pub mod PlannedPointers
 pub mod UnderRows
 pub mod DistinctBlocks
 pub mod OwnedPositions
+pub mod ReachedRows

@@ -71,11 +71,11 @@ module _ (a b : WorkState) where
   ]
 
   -- what all work shows, the first shows
-  shows_first : (n : BlockState) (bytes : ℕ → List ℕ) → ShowsOwn n (and_then a b) bytes → ShowsOwn n a bytes
+  pub shows_first : (n : BlockState) (bytes : ℕ → List ℕ) → ShowsOwn n (and_then a b) bytes → ShowsOwn n a bytes
   shows_first n bytes s = record { fresh = λ x h. s.fresh x (in_left a.fresh b.fresh x h); edits = λ e c. s.edits e (Contains-append_left a.edits b.edits e c) }
 
   -- and the second
-  shows_second : (n : BlockState) (bytes : ℕ → List ℕ) → ShowsOwn n (and_then a b) bytes → ShowsOwn n b bytes
+  pub shows_second : (n : BlockState) (bytes : ℕ → List ℕ) → ShowsOwn n (and_then a b) bytes → ShowsOwn n b bytes
   shows_second n bytes s = record { fresh = λ x h. s.fresh x (in_right a.fresh b.fresh x h); edits = λ e c. s.edits e (Contains-append_right a.edits b.edits e c) }
 
   -- no block is in both where they are distinct
