@@ -18,3 +18,5 @@ pub mod UnderRows
 pub mod DistinctBlocks
 pub mod OwnedPositions
 pub mod ReachedRows
+pub mod ReachedBlocks
+pub mod CommittedBlocks

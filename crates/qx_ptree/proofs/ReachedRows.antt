@@ -55,7 +55,7 @@ pub reaches_later : (m n o : BlockState) (plan : Plan) (work : WorkState) (row :
 reaches_later m n o plan work row tops stay r = owns_later n o work (IsOwnPosition m plan row) (new_pointer m plan row tops) stay r
 
 -- what holds, holds of either
-or_second : (a b : Bool) → b ≡ true → (a || b) ≡ true
+pub or_second : (a b : Bool) → b ≡ true → (a || b) ≡ true
 or_second true b e = refl
 or_second false b e = e
 
