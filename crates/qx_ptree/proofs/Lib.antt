@@ -20,3 +20,4 @@ pub mod OwnedPositions
 pub mod ReachedRows
 pub mod ReachedBlocks
 pub mod CommittedBlocks
+pub mod ReadyNodes
