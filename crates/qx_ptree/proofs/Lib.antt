@@ -21,3 +21,10 @@ pub mod ReachedRows
 pub mod ReachedBlocks
 pub mod CommittedBlocks
 pub mod ReadyNodes
+pub mod ListedBlocks
+pub mod OtherBlocks
+pub mod TakenBlocks
+pub mod GivenUp
+pub mod WrittenEdits
+pub mod AddedWork
+pub mod ReadyPaths
