@@ -21,6 +21,7 @@ pub mod ReachedRows
 pub mod ReachedBlocks
 pub mod CommittedBlocks
 pub mod ReadyNodes
+pub mod ReachedSteps
 pub mod ListedBlocks
 pub mod OtherBlocks
 pub mod TakenBlocks

@@ -1,11 +1,12 @@
 -- What was prepared above written leaves below some blocks of one level, whether bytes are told or not.
-use Rattle.std.specs.Prelude.{◌≡◌, ℕ, ◌++◌, List, true, Contains}
+use Rattle.std.specs.Prelude.{◌≡◌, ℕ, ◌++◌, Bool, List, true, Contains}
 use Rattle.qx_geom.specs.Lists.{Distinct, is_in}
 use Rattle.qx_geom.specs.Pointer.{per_block}
 use Rattle.qx_blocks.specs.BlockState.{BlockState}
 use Rattle.qx_ptree.specs.declared.fresh_blocks.Plan.{Plan}
 use Rattle.qx_ptree.specs.Building.{LiesUnder, Row, new_pointer}
 use Rattle.qx_ptree.specs.ReadyLeaves.{IsAbove, IsWrittenBy}
+use Rattle.qx_ptree.specs.Takings.{Adds}
 use Rattle.qx_ptree.specs.WorkState.{EditState, WorkState}
 
 -- what is prepared has come about at the blocks of the work
@@ -37,3 +38,12 @@ pub record IsOwnPosition (m : BlockState) (plan : Plan) (row : Row) (k j : ℕ) 
 -- from the blocks m to the blocks n this work was done below a row, whose new pointers are `tops`: the block at a written leaf, and each above one, is the work's own
 abbrev pub Reaches : BlockState → BlockState → Plan → WorkState → Row → (ℕ → ℕ) → Type 0
 Reaches m n plan work row tops = Owns n work (IsOwnPosition m plan row) (new_pointer m plan row tops)
+
+-- what is added to some work reaches the written leaves below a row
+pub record ReachesOnto (m n : BlockState) (before after : WorkState) (plan : Plan) (row : Row) (tops : ℕ → ℕ) : Type 0 where
+  pub adds : Adds m n before after
+  pub reaches : Reaches m n plan adds.added row tops
+
+-- where a written leaf stands below a row, something changed there, and something is present
+pub record IsMarked (m : BlockState) (plan : Plan) (row : Row) (changed present : Bool) : Type 0 where
+  pub marked : (k j : ℕ) → IsOwnPosition m plan row k j → (changed ≡ true) × (present ≡ true)
