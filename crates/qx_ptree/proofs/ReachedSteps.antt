@@ -13,7 +13,6 @@ use Rattle.qx_geom.specs.Pointer.{absent, per_block, reach}
 use Rattle.qx_geom.specs.Positions.{index_above}
 use Rattle.qx_nodes.proofs.LeafPaths.{by_one}
 use Rattle.qx_blocks.specs.BlockState.{BlockState, IsConsistent}
-use Rattle.qx_blocks.specs.Calls.{Keeps}
 use Rattle.qx_blocks.specs.declared.blocks.Stop.{Stop}
 use Rattle.qx_ptree.specs.declared.change.Change.{Change}
 use Rattle.qx_ptree.specs.declared.change.Fate.{Fate}
@@ -31,7 +30,6 @@ use Rattle.qx_ptree.proofs.OwnPositions.{above-up}
 use Rattle.qx_ptree.proofs.ReachedBlocks.{reaches_block_at, taken_there}
 use Rattle.qx_ptree.proofs.ReachedRows.{fresh_stay, own_leaf, reaches_later, reaches_leaf, reaches_more, reaches_next, reaches_next_top, reaches_no_work, reaches_nothing, reaches_sized}
 use Rattle.qx_ptree.proofs.ReadyNodes.{ready_node}
-use Rattle.qx_ptree.proofs.TakenBlocks.{Takes-none}
 use Rattle.qx_ptree.proofs.UnderRows.{none_under, row_more, row_own}
 use Rattle.qx_ptree.proofs.WholeNeed.{leaves-reached}
 
@@ -42,11 +40,11 @@ written_fate : (leaves : ℕ) (c : Change) (i : ℕ) → is_written c i ≡ true
 written_fate leaves c i e = ap (λ b. if b then Written else if is_gone leaves c i then Goes else Stays) e
 
 -- a leaf with another fate is not written, and nothing is above it
-pub unwritten_leaf : (m : BlockState) (plan : Plan) (index leaves : ℕ) (fate : Fate) → fate_of leaves plan.change index ≡ fate → (Written ≡ fate → ⊥) → (k j : ℕ) → IsOwnPosition m plan (one_block 0 index) k j → ⊥
+pub unwritten_leaf : (m : BlockState) (plan : Plan) (index leaves : ℕ) (fate : Fate) → fate ≡ fate_of leaves plan.change index → (Written ≡ fate → ⊥) → (k j : ℕ) → IsOwnPosition m plan (one_block 0 index) k j → ⊥
 unwritten_leaf m plan index leaves fate is other k j u =
     let l : (i : ℕ) × (is_written plan.change i ≡ true) × (index_above m.holdings.size 0 i ≡ index) = own_leaf m plan 0 index k j u in
     let at : l.0 ≡ index = sym (by_one l.0 (per_block m.holdings.size)) ∙ l.2 in
-    other (sym (written_fate leaves plan.change l.0 l.1) ∙ ap (fate_of leaves plan.change) at ∙ is)
+    other (sym (written_fate leaves plan.change l.0 l.1) ∙ ap (fate_of leaves plan.change) at ∙ sym is)
 
 -- the leaves below a block
 below_block : (i n index : ℕ) → 0 < n → i / n ≡ index → (index * n ≤ i) × (i < (index + 1) * n)
@@ -89,11 +87,11 @@ adds_released m n before after blocks t noted = record {
   edits = CanEdit-none n (with_released no_work blocks) refl;
 }
 
--- as a call says that gives up what lies somewhere
-pub onto_given_up : (m n : BlockState) (before after : WorkState) (plan : Plan) (inside : ℕ → ℕ → Type 0) (result : Result (Unit {0}) Stop) (row : Row) (tops : ℕ → ℕ) → Keeps m n → GivesUp m n before after plan inside result
-    → ((k j : ℕ) → IsOwnPosition m plan row k j → ⊥) → ReachesOnto m n before after plan row tops
-onto_given_up m n before after plan inside result row tops keeps g out =
-    record { adds = adds_released m n before after g.blocks (Takes-none m n keeps) g.is; reaches = reaches_nothing m n plan (with_released no_work g.blocks) row tops refl out }
+-- as a call said that gives up what lies somewhere
+pub onto_given_up : (m n o : BlockState) (before after : WorkState) (plan : Plan) (inside : ℕ → ℕ → Type 0) (result : Result (Unit {0}) Stop) (row : Row) (tops : ℕ → ℕ) → Takes [] m o → GivesUp m n before after plan inside result
+    → ((k j : ℕ) → IsOwnPosition m plan row k j → ⊥) → ReachesOnto m o before after plan row tops
+onto_given_up m n o before after plan inside result row tops t g out =
+    record { adds = adds_released m o before after g.blocks t g.is; reaches = reaches_nothing m o plan (with_released no_work g.blocks) row tops refl out }
 
 -- ---- where something is written
 
