@@ -23,6 +23,13 @@ pub mod PreparedNodes
 pub mod KeptPlans
 pub mod PlannedParts
 pub mod EmptyNodes
+pub mod UnderRows
+pub mod DistinctBlocks
+pub mod OwnedPositions
+pub mod ReachedRows
+pub mod ReachedBlocks
+pub mod ReadyNodes
+pub mod ReachedSteps
 pub mod ListedBlocks
 pub mod OtherBlocks
 pub mod TakenBlocks
@@ -31,3 +38,4 @@ pub mod WrittenEdits
 pub mod AddedWork
 pub mod PreparedBlocks
 pub mod ReadyPaths
+pub mod OwnBlocksAfter

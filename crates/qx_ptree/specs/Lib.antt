@@ -9,3 +9,5 @@ pub mod PreparedView
 pub mod Takings
 pub mod Altered
 pub mod Building
+pub mod ReadyLeaves
+pub mod Reaching

@@ -1,7 +1,7 @@
 //! What a change has done so far, and what is left to its commit.
-ghost use Rattle.std.specs.Prelude.{◌≡◌, ◌<◌, ◌∷◌, ◌++◌, [], false, length, IfOk, IfErr, OnOk, OnErr, IsTrue};
+ghost use Rattle.std.specs.Prelude.{◌≡◌, ℕ, ◌+◌, ◌<◌, ◌↔◌, ◌∷◌, ◌++◌, [], true, false, length, slice_index, IfOk, IfErr, OnOk, OnErr, IsTrue};
 ghost use Rattle.std.specs.List.{list_any};
-ghost use Rattle.qx_geom.specs.Lists.{is_in};
+ghost use Rattle.qx_geom.specs.Lists.{Distinct, is_in};
 ghost use Rattle.qx_blocks.specs.BlockState.{IsConsistent, with_bytes, with_fresh};
 ghost use Rattle.qx_blocks.specs.Calls.{HasStopCause, Keeps, MakesReady};
 ghost use Rattle.qx_ptree.specs.Takings.{LeavesOthers, Takes};
@@ -200,6 +200,31 @@ impl Work {
     {
         self.fresh.contains(&b) || self.kept.contains(&b) || self.released.contains(&b)
     }
+
+    // Whether no block is named twice. Where bytes are told it is so.
+    pub(crate) fn is_distinct(&self, alloc: Global) -> Result<bool, Stop>
+        ensures distinct { IfOk result (λ distinct. distinct ≡ true ↔ Distinct (all_blocks self.now)) }
+        ensures refused { IfErr result (λ stop. stop ≡ Stop.NoMemory) }
+    {
+        let mut blocks = Vec::new(alloc);
+        blocks.extend_from_slice(&self.fresh)?;
+        blocks.extend_from_slice(&self.kept)?;
+        blocks.extend_from_slice(&self.released)?;
+        blocks.sort_unstable();
+        Ok(have_no_twins(&blocks))
+    }
+}
+
+// Whether no number is followed by itself.
+fn have_no_twins(blocks: &[u32]) -> bool
+    ensures { result ≡ true ↔ ((k : ℕ) → k + 1 < length blocks.now → ¬ (slice_index blocks.now k ≡ slice_index blocks.now (k + 1))) }
+{
+    for (k, b) in blocks.iter().enumerate() {
+        if k + 1 < blocks.len() && *b == blocks[k + 1] {
+            return false;
+        }
+    }
+    true
 }
 
 // Gives up the working tree's hold of these blocks, where it has one.
