@@ -84,7 +84,7 @@ CanEdit-then m a b first second e c = elim (Contains-append_cases a.edits b.edit
 pub nothing_in : (q : ℕ) → is_in [] q ≡ true → ⊥
 nothing_in q t = cc
 
--- blocks were taken at most
+-- nothing was added
 abbrev pub adds_none : (m n : BlockState) (before after : WorkState) → Takes [] m n → after ≡ before → Adds m n before after
 adds_none m n before after f same = record {
   added = no_work;

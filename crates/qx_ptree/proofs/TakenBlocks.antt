@@ -67,6 +67,19 @@ ready-made m n b r = ap (λ h. h.ready b) r.holdings ∙ put-or m.holdings.ready
     in_one : (b : ℕ) → is_in (b ∷ []) b ≡ true
     in_one b = in_Contains (b ∷ []) b (0, omega arith, refl)
 
+-- the one block that nobody held isn't used at all
+fresh_unused : (m : BlockState) (b q : ℕ) → IsConsistent m → m.holdings.held b ≡ false → is_in (b ∷ []) q ≡ true
+    → (m.holdings.held q ≡ false) × ((m.holdings.works q ≡ false) × (m.holdings.private q ≡ false) × (m.holdings.ready q ≡ false))
+fresh_unused m b q k unheld t =
+    let none : m.holdings.held q ≡ false = elim (in_cases b q [] t) [ inl is ↦ ap m.holdings.held (sym is) ∙ unheld | inr rest ↦ absurd (cc rest) ] in (
+      none,
+      (
+        not_so (m.holdings.works q) (λ w. true_or_false (m.holdings.held q) (k.works_held q w) none),
+        not_so (m.holdings.private q) (λ w. true_or_false (m.holdings.held q) (k.works_held q (k.private_works q w)) none),
+        not_so (m.holdings.ready q) (λ r. true_or_false (m.holdings.held q) (ready_held m q k r) none),
+      ),
+    )
+
 -- a block is taken, which is then written, maybe
 pub Takes-one : (m n : BlockState) (b : ℕ) (bytes : List ℕ) → IsConsistent m → m.holdings.held b ≡ false → 0 < m.holdings.free
     → n.holdings ≡ (with_fresh m b).holdings → (IsTrue n.tells → n ≡ with_bytes (with_fresh m b) b bytes)
@@ -78,8 +91,8 @@ Takes-one m n b bytes k unheld some holdings told ready = record {
   works = λ q. ap (λ h. h.works q) holdings ∙ put-or m.holdings.works b q;
   private = λ q. ap (λ h. h.private q) holdings ∙ put-or m.holdings.private b q;
   ready = λ q t. ap (λ h. h.ready q) holdings ∙ put-or m.holdings.ready b q ∙ t;
-  unheld = λ q t. no_holder q t;
-  unused = λ q t. (no_worker q t, no_private q t, not_so (m.holdings.ready q) (λ r. true_or_false (m.holdings.held q) (ready_held m q k r) (no_holder q t)));
+  unheld = λ q t. (fresh_unused m b q k unheld t).0;
+  unused = λ q t. (fresh_unused m b q k unheld t).1;
   distinct = (λ c. absurd (omega (arith, c.1)), tt);
   free = omega (arith, ap (λ h. h.free) holdings);
   ready_bytes = ready;
@@ -87,15 +100,6 @@ Takes-one m n b bytes k unheld some holdings told ready = record {
   told_bytes = λ t q held. ap (λ s. s.bytes q) (told t) ∙ apart_twice q (λ e. true_or_false (m.holdings.held b) (ap m.holdings.held (sym e) ∙ held) unheld);
   told_history = λ t. ap (λ s. s.history) (told t);
 } where
-  no_holder : (q : ℕ) → is_in (b ∷ []) q ≡ true → m.holdings.held q ≡ false
-  no_holder q t = elim (in_cases b q [] t) [ inl is ↦ ap m.holdings.held (sym is) ∙ unheld | inr rest ↦ absurd (cc rest) ]
-
-  no_worker : (q : ℕ) → is_in (b ∷ []) q ≡ true → m.holdings.works q ≡ false
-  no_worker q t = not_so (m.holdings.works q) (λ w. true_or_false (m.holdings.held q) (k.works_held q w) (no_holder q t))
-
-  no_private : (q : ℕ) → is_in (b ∷ []) q ≡ true → m.holdings.private q ≡ false
-  no_private q t = not_so (m.holdings.private q) (λ w. true_or_false (m.holdings.held q) (k.works_held q (k.private_works q w)) (no_holder q t))
-
   apart_twice : (q : ℕ) → (q ≡ b → ⊥) → put (put m.bytes b (replicate m.holdings.size 0)) b bytes q ≡ m.bytes q
   apart_twice q ne = put-other (put m.bytes b (replicate m.holdings.size 0)) b q bytes ne ∙ put-other m.bytes b q (replicate m.holdings.size 0) ne
 
@@ -127,12 +131,8 @@ Takes-fresh m b k unheld some = record {
   works = put-or m.holdings.works b;
   private = put-or m.holdings.private b;
   ready = λ q t. put-or m.holdings.ready b q ∙ t;
-  unheld = no_holder;
-  unused = λ q t. (
-    not_so (m.holdings.works q) (λ w. true_or_false (m.holdings.held q) (k.works_held q w) (no_holder q t)),
-    not_so (m.holdings.private q) (λ w. true_or_false (m.holdings.held q) (k.works_held q (k.private_works q w)) (no_holder q t)),
-    not_so (m.holdings.ready q) (λ r. true_or_false (m.holdings.held q) (ready_held m q k r) (no_holder q t)),
-  );
+  unheld = λ q t. (fresh_unused m b q k unheld t).0;
+  unused = λ q t. (fresh_unused m b q k unheld t).1;
   distinct = (λ c. absurd (omega (arith, c.1)), tt);
   free = omega arith;
   ready_bytes = λ q r. other q (ready_held m q k r);
@@ -140,9 +140,6 @@ Takes-fresh m b k unheld some = record {
   told_bytes = λ t q held. other q held;
   told_history = λ t. refl;
 } where
-  no_holder : (q : ℕ) → is_in (b ∷ []) q ≡ true → m.holdings.held q ≡ false
-  no_holder q t = elim (in_cases b q [] t) [ inl is ↦ ap m.holdings.held (sym is) ∙ unheld | inr rest ↦ absurd (cc rest) ]
-
   other : (q : ℕ) → IsTrue (m.holdings.held q) → put m.bytes b (replicate m.holdings.size 0) q ≡ m.bytes q
   other q held = put-other m.bytes b q (replicate m.holdings.size 0) (λ e. true_or_false (m.holdings.held b) (ap m.holdings.held (sym e) ∙ held) unheld)
 
