@@ -19,7 +19,7 @@ pub mod DistinctBlocks
 pub mod OwnedPositions
 pub mod ReachedRows
 pub mod ReachedBlocks
-pub mod CommittedBlocks
+pub mod EditedBlocks
 pub mod ReadyNodes
 pub mod ReachedSteps
 pub mod ListedBlocks
