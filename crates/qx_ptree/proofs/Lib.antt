@@ -28,4 +28,5 @@ pub mod TakenBlocks
 pub mod GivenUp
 pub mod WrittenEdits
 pub mod AddedWork
+pub mod PreparedBlocks
 pub mod ReadyPaths
