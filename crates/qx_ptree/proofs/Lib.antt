@@ -15,6 +15,7 @@ pub mod MetPositions
 pub mod PresentPositions
 pub mod PlannedPointers
 pub mod UnderRows
+pub mod PointerArrays
 pub mod DistinctBlocks
 pub mod OwnedPositions
 pub mod ReachedRows
