@@ -141,7 +141,3 @@ distinct_left xs ys whole = once_distinct xs (λ x. omega (arith, count_append x
 pub distinct_apart_lists : (xs ys : List ℕ) (x : ℕ) → Distinct (xs ++ ys) → is_in xs x ≡ true → is_in ys x ≡ false
 distinct_apart_lists xs ys x whole first =
     not_so (is_in ys x) (λ second. omega (arith, count_append x xs ys, distinct_once (xs ++ ys) whole x, counted xs x (Contains-in xs x first), counted ys x (Contains-in ys x second)))
-
--- the second of two lists
-pub distinct_right : (xs ys : List ℕ) → Distinct (xs ++ ys) → Distinct ys
-distinct_right xs ys whole = once_distinct ys (λ x. omega (arith, count_append x xs ys, distinct_once (xs ++ ys) whole x))

@@ -24,10 +24,12 @@ pub mod KeptPlans
 pub mod PlannedParts
 pub mod EmptyNodes
 pub mod UnderRows
+pub mod PointerArrays
 pub mod DistinctBlocks
 pub mod OwnedPositions
 pub mod ReachedRows
 pub mod ReachedBlocks
+pub mod EditedBlocks
 pub mod ReadyNodes
 pub mod ReachedSteps
 pub mod ListedBlocks
@@ -38,4 +40,3 @@ pub mod WrittenEdits
 pub mod AddedWork
 pub mod PreparedBlocks
 pub mod ReadyPaths
-pub mod OwnBlocksAfter

@@ -17,6 +17,7 @@ use Rattle.qx_ptree.specs.ReadyLeaves.{IsAbove, IsWrittenBy}
 use Rattle.qx_ptree.specs.Takings.{Takes}
 use Rattle.qx_ptree.specs.Trees.{block_map}
 use Rattle.qx_ptree.specs.WorkState.{EditState, WorkState, and_then, no_work}
+use Rattle.qx_ptree.proofs.ListedBlocks.{either_right}
 use Rattle.qx_ptree.proofs.OwnedPositions.{no_edits, owns_both, owns_fewer, owns_later, owns_none}
 use Rattle.qx_ptree.proofs.UnderRows.{none_under, row_more, under_index, under_own}
 
@@ -54,14 +55,9 @@ own_leaf m plan level index k j u =
 pub reaches_later : (m n o : BlockState) (plan : Plan) (work : WorkState) (row : Row) (tops : ℕ → ℕ) → ((b : ℕ) → is_in work.fresh b ≡ true → o.bytes b ≡ n.bytes b) → Reaches m n plan work row tops → Reaches m o plan work row tops
 reaches_later m n o plan work row tops stay r = owns_later n o work (IsOwnPosition m plan row) (new_pointer m plan row tops) stay r
 
--- what holds, holds of either
-pub or_second : (a b : Bool) → b ≡ true → (a || b) ≡ true
-or_second true b e = refl
-or_second false b e = e
-
 -- so they do where more blocks are taken
 pub fresh_stay : (f g : List ℕ) (m n o : BlockState) → Takes f m n → Takes g n o → (b : ℕ) → is_in f b ≡ true → o.bytes b ≡ n.bytes b
-fresh_stay f g m n o t u b h = u.ready_bytes b (t.ready b (or_second (m.holdings.ready b) (is_in f b) h))
+fresh_stay f g m n o t u b h = u.ready_bytes b (t.ready b (either_right (m.holdings.ready b) (is_in f b) h))
 
 -- the size and the count of the blocks before are all that counts of them
 pub reaches_sized : (m o n : BlockState) (plan : Plan) (work : WorkState) (row : Row) (tops : ℕ → ℕ) → o.holdings.size ≡ m.holdings.size → o.holdings.count ≡ m.holdings.count → Reaches o n plan work row tops → Reaches m n plan work row tops

@@ -26,6 +26,7 @@ use Rattle.qx_ptree.specs.ReadyLeaves.{IsAbove, IsReadyApart, IsWrittenBy, OwnAs
 use Rattle.qx_ptree.specs.Takings.{Adds, Takes}
 use Rattle.qx_ptree.specs.WorkState.{Preparation, WorkState, all_blocks, and_then, committed, no_work}
 use Rattle.qx_ptree.proofs.AddedWork.{CanEdit-none, adds_lost, adds_none, adds_then, nothing_in}
+use Rattle.qx_ptree.proofs.ListedBlocks.{either_right}
 use Rattle.qx_ptree.proofs.OwnPositions.{above-up}
 use Rattle.qx_ptree.proofs.ReachedBlocks.{reaches_block_at, taken_there}
 use Rattle.qx_ptree.proofs.ReachedRows.{fresh_stay, own_leaf, reaches_later, reaches_leaf, reaches_more, reaches_next, reaches_next_top, reaches_no_work, reaches_nothing, reaches_sized}
@@ -154,18 +155,13 @@ marked_sized m o plan row changed present size k = record {
   marked = λ x j u. k.marked x j (record { under = subst (λ s. LiesUnder (per_block s) row x j) (sym size) u.under; above = subst (λ s. IsAbove s (IsWrittenBy plan.change) x j) (sym size) u.above });
 }
 
--- what holds of either
-or_marks : (a b : Bool) → b ≡ true → (a || b) ≡ true
-or_marks true b e = refl
-or_marks false b e = e
-
 -- one block more
 pub marked_more : (m : BlockState) (plan : Plan) (level first w : ℕ) (changed present more there : Bool) → IsMarked m plan (record { level = level; first = first; count = w }) changed present → IsMarked m plan (one_block level (first + w)) more there
     → IsMarked m plan (record { level = level; first = first; count = w + 1 }) (changed || more) (present || there)
 marked_more m plan level first w changed present more there a b = record {
   marked = λ k j u. elim (row_more (per_block m.holdings.size) level first w k j u.under) [
     | inl x ↦ let e : (changed ≡ true) × (present ≡ true) = a.marked k j (record { under = x; above = u.above }) in (ap (λ t. t || more) e.0, ap (λ t. t || there) e.1)
-    | inr y ↦ let e : (more ≡ true) × (there ≡ true) = b.marked k j (record { under = y; above = u.above }) in (or_marks changed more e.0, or_marks present there e.1)
+    | inr y ↦ let e : (more ≡ true) × (there ≡ true) = b.marked k j (record { under = y; above = u.above }) in (either_right changed more e.0, either_right present there e.1)
   ];
 }
 

@@ -17,13 +17,14 @@ use Rattle.qx_ptree.specs.Building.{LiesUnder, Row, new_pointer, pointer_down}
 use Rattle.qx_ptree.specs.Fates.{is_written}
 use Rattle.qx_ptree.specs.Reaching.{IsOwnPosition, Reaches, ShowsOwn, own_blocks}
 use Rattle.qx_ptree.specs.ReadyLeaves.{IsAbove, IsReadyApart, IsWrittenBy, OwnAsLeft}
-use Rattle.qx_ptree.specs.Takings.{Takes}
+use Rattle.qx_ptree.specs.Takings.{LeavesOthers, Takes}
 use Rattle.qx_ptree.specs.Trees.{block_map, pointer_at, pointer_from}
 use Rattle.qx_ptree.specs.WorkState.{EditState, Preparation, WorkState, all_blocks, committed, with_edits, without_all}
-use Rattle.qx_ptree.proofs.OwnBlocksAfter.{IsUntouched, all_up, all_up_size, edits_give, edits_holdings, edits_others}
-use Rattle.qx_ptree.proofs.DistinctBlocks.{distinct_apart_lists, distinct_left, distinct_right}
+use Rattle.qx_ptree.proofs.DistinctBlocks.{distinct_apart_lists, distinct_left}
+use Rattle.qx_ptree.proofs.EditedBlocks.{edits_give, edits_holdings}
+use Rattle.qx_ptree.proofs.ListedBlocks.{either_right}
+use Rattle.qx_ptree.proofs.OtherBlocks.{LeavesOthers-with_edits, LeavesOthers-without_all}
 use Rattle.qx_ptree.proofs.PointersByPosition.{at_from}
-use Rattle.qx_ptree.proofs.ReachedRows.{or_second}
 
 -- ---- the node's pointers
 
@@ -40,13 +41,6 @@ few_above : (i P l : ℕ) → 0 < P → i < 16 * P ^ l → i / P ^ l < 16
 few_above i P l pos low = (div-lt_iff_lt-mul (one-le-pow l P pos)).1 low
 
 -- ---- the work of a change
-
--- what is in neither list
-out_left : (xs ys : List ℕ) (b : ℕ) → is_in (xs ++ ys) b ≡ false → is_in xs b ≡ false
-out_left xs ys b out = not_so (is_in xs b) (λ t. true_or_false (is_in (xs ++ ys) b) (in_left xs ys b t) out)
-
-out_right : (xs ys : List ℕ) (b : ℕ) → is_in (xs ++ ys) b ≡ false → is_in ys b ≡ false
-out_right xs ys b out = not_so (is_in ys b) (λ t. true_or_false (is_in (xs ++ ys) b) (in_right xs ys b t) out)
 
 -- the blocks that stay are blocks of the work
 own_all : (work : WorkState) (b : ℕ) → is_in (own_blocks work) b ≡ true → is_in (all_blocks work) b ≡ true
@@ -81,37 +75,35 @@ module _ (m n now : BlockState) (plan : Plan) (p : Preparation) (r : IsReached m
   abbrev row : Row
   row = record { level = p.root.levels; first = 0; count = 16 }
 
+  -- what is given up leaves the other blocks as they are
+  others : LeavesOthers p.work.released (with_edits now p.work.edits) (committed now p)
+  others = LeavesOthers-without_all p.work.released (with_edits now p.work.edits) p.work.released (λ b h. h)
+
   -- the blocks are as many, and as large
   same_size : (committed now p).holdings.size ≡ m.holdings.size
-  same_size = (all_up_size (with_edits now p.work.edits) p.work.released).0 ∙ ap (λ (h : Holdings). h.size) (edits_holdings now p.work.edits) ∙ left.size ∙ r.takes.size
+  same_size = others.size ∙ ap (λ (h : Holdings). h.size) (edits_holdings now p.work.edits) ∙ left.size ∙ r.takes.size
 
   same_count : (committed now p).holdings.count ≡ m.holdings.count
-  same_count = (all_up_size (with_edits now p.work.edits) p.work.released).1 ∙ ap (λ (h : Holdings). h.count) (edits_holdings now p.work.edits) ∙ left.count ∙ r.takes.count
+  same_count = others.count ∙ ap (λ (h : Holdings). h.count) (edits_holdings now p.work.edits) ∙ left.count ∙ r.takes.count
 
-  -- what becomes of a block that stays
-  stays_there : (b : ℕ) → is_in (own_blocks p.work) b ≡ true → IsUntouched (with_edits now p.work.edits) (committed now p) b
-  stays_there b h = all_up (with_edits now p.work.edits) p.work.released b (own_stays p.work b r.distinct h)
-
-  -- it is ready
+  -- a block that stays is ready
   stays_ready : (b : ℕ) → is_in (own_blocks p.work) b ≡ true → IsTrue ((committed now p).holdings.ready b)
   stays_ready b h =
       let before : IsTrue (n.holdings.ready b) = elim (in_append_cases p.work.fresh p.work.kept b h) [
-        | inl fresh ↦ r.takes.ready b (or_second (m.holdings.ready b) (is_in p.work.fresh b) fresh)
+        | inl fresh ↦ r.takes.ready b (either_right (m.holdings.ready b) (is_in p.work.fresh b) fresh)
         | inr kept ↦ r.kept b kept
       ] in
-      (stays_there b h).ready ∙ ap (λ (g : Holdings). g.ready b) (edits_holdings now p.work.edits) ∙ (left.own b (own_all p.work b h)).ready before
+      others.ready b (own_stays p.work b r.distinct h) ∙ ap (λ (g : Holdings). g.ready b) (edits_holdings now p.work.edits) ∙ (left.own b (own_all p.work b h)).ready before
 
   -- what was prepared has come about
   shows : ShowsOwn n p.work (committed now p).bytes
   shows = record {
     fresh = λ b h.
     let own : is_in (own_blocks p.work) b ≡ true = in_left p.work.fresh p.work.kept b h in
-    let other : is_in p.work.kept b ≡ false = distinct_apart_lists p.work.fresh p.work.kept b (own_distinct p.work r.distinct) h in
-    (stays_there b own).bytes
-    ∙ edits_others now p.work.edits b (λ e c is. true_or_false (is_in p.work.kept b) (subst (λ x. is_in p.work.kept x ≡ true) is (r.reaches.edits.kept e c)) other)
-    ∙ (left.own b (own_all p.work b own)).bytes;
+    let edited : LeavesOthers p.work.kept now (with_edits now p.work.edits) = LeavesOthers-with_edits p.work.kept now p.work.edits r.reaches.edits.kept in
+    others.bytes b (own_stays p.work b r.distinct own) ∙ edited.bytes b (distinct_apart_lists p.work.fresh p.work.kept b (own_distinct p.work r.distinct) h) ∙ (left.own b (own_all p.work b own)).bytes;
     edits = λ e c.
-    (stays_there e.block (in_right p.work.fresh p.work.kept e.block (r.reaches.edits.kept e c))).bytes
+    others.bytes e.block (own_stays p.work e.block r.distinct (in_right p.work.fresh p.work.kept e.block (r.reaches.edits.kept e c)))
     ∙ edits_give now p.work.edits e c (λ f g is. ap (λ (x : EditState). x.bytes) (r.reaches.edits.once (own_distinct p.work r.distinct) f e g c is));
   }
 
