@@ -14,3 +14,7 @@ pub mod PointersByPosition
 pub mod MetPositions
 pub mod PresentPositions
 pub mod PlannedPointers
+pub mod UnderRows
+pub mod LeavesByPointer
+pub mod CarriedPlans
+pub mod CarriedBuilds
