@@ -78,16 +78,29 @@ loses_block a k j = if keeps_block a k j then false else true
 abbrev pub is_kept : Alteration → ℕ → ℕ → Bool
 is_kept a k j = if keeps_block a k j then is_touched a.blocksize a.old a.new a.written k j else false
 
--- from the blocks m to the blocks n this work was done below a row, whose new pointers are `tops`
+-- the new pointer to block j of a level below a row whose new pointers are `tops`, where blocks have these bytes
+abbrev pub new_pointer : BlockState → Plan → Row → (ℕ → ℕ) → (ℕ → List ℕ) → ℕ → ℕ → ℕ
+new_pointer m plan row tops bytes k j = pointer_down (with_bytes (block_map plan.order m) bytes) (row.level - k) (tops (j / per_block m.holdings.size ^ (row.level - k))) j
+
+-- block j of a level below a row takes a fresh block
+pub record IsFreshPosition (m : BlockState) (plan : Plan) (row : Row) (k j : ℕ) : Type 0 where
+  pub under : LiesUnder (per_block m.holdings.size) row k j
+  pub there : has_position m.holdings.size (alteration_in plan m).new k j ≡ true
+  pub fresh : takes_fresh (alteration_in plan m) k j ≡ true
+
+-- from the blocks m to the blocks n this work was done below a row, whose new pointers are `tops`; no fresh block stands at two positions, and no block gets bytes twice
 pub record Builds (m n : BlockState) (plan : Plan) (work : WorkState) (row : Row) (tops : ℕ → ℕ) : Type 0 where
   pub pointers : (bytes : ℕ → List ℕ) → Shows m n plan work row bytes → (k j : ℕ) → LiesUnder (per_block m.holdings.size) row k j
-      → IsPlaced m n plan work k j (pointer_down (with_bytes (block_map plan.order m) bytes) (row.level - k) (tops (j / per_block m.holdings.size ^ (row.level - k))) j)
+      → IsPlaced m n plan work k j (new_pointer m plan row tops bytes k j)
+  pub apart : (bytes : ℕ → List ℕ) → Shows m n plan work row bytes → (k j h i : ℕ) → IsFreshPosition m plan row k j → IsFreshPosition m plan row h i
+      → new_pointer m plan row tops bytes k j ≡ new_pointer m plan row tops bytes h i → (k ≡ h) × (j ≡ i)
   pub count : length work.fresh ≡ sum_by (fresh_below (alteration_in plan m) row.level) (range_with_len row.first row.count)
   pub released : (k j p : ℕ) → IsOldPosition m plan row k j p → loses_block (alteration_in plan m) k j ≡ true → is_in work.released p ≡ true
   pub only_lost : (b : ℕ) → is_in work.released b ≡ true → HasOldPosition m plan row (loses_block (alteration_in plan m)) b
   pub kept : (k j p : ℕ) → IsOldPosition m plan row k j p → is_kept (alteration_in plan m) k j ≡ true → is_in work.kept p ≡ true
   pub only_kept : (b : ℕ) → is_in work.kept b ≡ true → HasOldPosition m plan row (is_kept (alteration_in plan m)) b
   pub edited : (e : EditState) → Contains work.edits e → (k : ℕ) × (j : ℕ) × IsOldPosition m plan row k j e.block × (is_kept (alteration_in plan m) k j ≡ true) × (0 < k)
+  pub edit_once : (e f : EditState) → Contains work.edits e → Contains work.edits f → e.block ≡ f.block → e ≡ f
 
 -- what is added to some work was done below a row
 pub record BuildsOnto (m n : BlockState) (before after : WorkState) (plan : Plan) (row : Row) (tops : ℕ → ℕ) : Type 0 where
