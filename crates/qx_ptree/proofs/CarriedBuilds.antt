@@ -14,7 +14,7 @@ use Rattle.qx_blocks.specs.BlockState.{BlockState}
 use Rattle.qx_ptree.specs.declared.fresh_blocks.Plan.{Plan}
 use Rattle.qx_ptree.specs.Altered.{keeps_block, takes_fresh}
 use Rattle.qx_ptree.specs.Alterations.{Alteration}
-use Rattle.qx_ptree.specs.Building.{Builds, HasOldPosition, IsOldPosition, IsPlaced, LiesUnder, Row, Shows, is_kept, loses_block, pointer_down}
+use Rattle.qx_ptree.specs.Building.{Builds, HasOldPosition, IsFreshPosition, IsOldPosition, IsPlaced, LiesUnder, Row, Shows, is_kept, loses_block, new_pointer, pointer_down}
 use Rattle.qx_ptree.specs.Parts.{fresh_below}
 use Rattle.qx_ptree.specs.Plans.{alteration_in, planned_pointer}
 use Rattle.qx_ptree.specs.Takings.{Takes}
@@ -69,19 +69,28 @@ module _ (m n o : BlockState) (plan : Plan) (p : IsToldPlan m plan) (c : IsCarri
   has_earlier : (row : Row) (test : Alteration → ℕ → ℕ → Bool) (q : ℕ) → HasOldPosition n plan row (test (alteration_in plan n)) q → HasOldPosition m plan row (test (alteration_in plan m)) q
   has_earlier row test q (k, j, old, passes) = (k, j, old_earlier row k j q old, (λ i. test (sym c.alteration i) k j) ∙ passes)
 
+  -- the positions that take a fresh block
+  fresh_later : (row : Row) (k j : ℕ) → IsFreshPosition m plan row k j → IsFreshPosition n plan row k j
+  fresh_later row k j s = record { under = under_later row k j s.under; there = (λ i. has_position (c.size i) (c.alteration i).new k j) ∙ s.there; fresh = (λ i. takes_fresh (c.alteration i) k j) ∙ s.fresh }
+
+  -- the new pointers
+  new_later : (row : Row) (tops : ℕ → ℕ) (bytes : ℕ → List ℕ) (k j : ℕ) → new_pointer n plan row tops bytes k j ≡ new_pointer m plan row tops bytes k j
+  new_later row tops bytes k j = λ i. pointer_down (record { order = plan.order; size = c.size i; count = c.count i; bytes = bytes }) (row.level - k) (tops (j / per_block (c.size i) ^ (row.level - k))) j
+
   -- what was built from later blocks was built from the earlier ones
   pub builds_earlier : (w : WorkState) (row : Row) (tops : ℕ → ℕ) → Builds n o plan w row tops → Builds m o plan w row tops
   builds_earlier w row tops b = record {
     pointers = λ bytes shows k j u.
-        placed_earlier w k j _ (subst (λ x. IsPlaced n o plan w k j x)
-        (λ i. pointer_down (record { order = plan.order; size = c.size i; count = c.count i; bytes = bytes }) (row.level - k) (tops (j / per_block (c.size i) ^ (row.level - k))) j)
-        (b.pointers bytes (shows_later w row bytes shows) k j (under_later row k j u)));
+        placed_earlier w k j _ (subst (λ x. IsPlaced n o plan w k j x) (new_later row tops bytes k j) (b.pointers bytes (shows_later w row bytes shows) k j (under_later row k j u)));
+    apart = λ bytes shows k j h i a d same.
+        b.apart bytes (shows_later w row bytes shows) k j h i (fresh_later row k j a) (fresh_later row h i d) (new_later row tops bytes k j ∙ same ∙ sym (new_later row tops bytes h i));
     count = b.count ∙ (λ i. sum_by (fresh_below (c.alteration i) row.level) (range_with_len row.first row.count));
     released = λ k j q old lost. b.released k j q (old_later row k j q old) ((λ i. loses_block (c.alteration i) k j) ∙ lost);
     only_lost = λ q s. has_earlier row loses_block q (b.only_lost q s);
     kept = λ k j q old keeps. b.kept k j q (old_later row k j q old) ((λ i. is_kept (c.alteration i) k j) ∙ keeps);
     only_kept = λ q s. has_earlier row is_kept q (b.only_kept q s);
     edited = λ e s. let r = b.edited e s in (r.0, r.1, old_earlier row r.0 r.1 e.block r.2, (λ i. is_kept (sym c.alteration i) r.0 r.1) ∙ r.3, r.4);
+    edit_once = b.edit_once;
   }
 
 -- ---- blocks that are taken afterwards
@@ -94,10 +103,12 @@ builds_later f l m n o plan w row tops taken t told b =
       pointers = λ bytes shows k j u.
           let s = b.pointers bytes (record { fresh = λ q e. shows.fresh q e ∙ same q e; edits = shows.edits; others = shows.others }) k j u in
           record { none = s.none; stays = s.stays; fresh = s.fresh; bytes = λ z e f. same _ (s.fresh e f) ∙ s.bytes z e f };
+      apart = λ bytes shows k j h i a d is. b.apart bytes (record { fresh = λ q e. shows.fresh q e ∙ same q e; edits = shows.edits; others = shows.others }) k j h i a d is;
       count = b.count;
       released = b.released;
       only_lost = b.only_lost;
       kept = b.kept;
       only_kept = b.only_kept;
       edited = b.edited;
+      edit_once = b.edit_once;
     }

@@ -18,3 +18,4 @@ pub mod UnderRows
 pub mod LeavesByPointer
 pub mod CarriedPlans
 pub mod CarriedBuilds
+pub mod BuiltRows
