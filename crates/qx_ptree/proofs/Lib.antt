@@ -19,3 +19,4 @@ pub mod LeavesByPointer
 pub mod CarriedPlans
 pub mod CarriedBuilds
 pub mod BuiltRows
+pub mod QuietParts
