@@ -20,3 +20,4 @@ pub mod CarriedPlans
 pub mod CarriedBuilds
 pub mod BuiltRows
 pub mod QuietParts
+pub mod OwnWork
