@@ -21,3 +21,4 @@ pub mod CarriedBuilds
 pub mod BuiltRows
 pub mod QuietParts
 pub mod OwnWork
+pub mod BuiltBlocks
