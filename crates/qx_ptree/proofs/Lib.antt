@@ -22,3 +22,4 @@ pub mod BuiltRows
 pub mod QuietParts
 pub mod OwnWork
 pub mod BuiltBlocks
+pub mod BuiltSteps

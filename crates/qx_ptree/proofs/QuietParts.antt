@@ -127,11 +127,11 @@ module _ (m n : BlockState) (plan : Plan) (p : IsToldPlan m plan) (level index :
     quiet_under k j u = none_below_block size (changed_leaves a.old a.new a.written) level index k j u quiet
 
     -- the positions are the old ones
-    same_under : (k j : ℕ) → LiesUnder P (one_block level index) k j → has_position size a.new k j ≡ has_position size a.old k j
+    pub same_under : (k j : ℕ) → LiesUnder P (one_block level index) k j → has_position size a.new k j ≡ has_position size a.old k j
     same_under k j u = new_under k j u ∙ unchanged_below size a.old a.new a.written k j (quiet_under k j u) ∙ sym (old_under k j at u)
 
     -- none of them is touched
-    plain_under : (k j : ℕ) → LiesUnder P (one_block level index) k j → planned_pointer plan m k j ≢ absent → is_touched size a.old a.new a.written k j ≡ false
+    pub plain_under : (k j : ℕ) → LiesUnder P (one_block level index) k j → planned_pointer plan m k j ≢ absent → is_touched size a.old a.new a.written k j ≡ false
     plain_under k j u there =
         let low : k ≤ plan.node.levels = elim (cases_lt plan.node.levels k) [ inl above ↦ absurd (there (at_above (block_map plan.order m) plan.node k j above)) | inr h ↦ h ] in
         λ i. le-ltb plan.node.levels k low i || quiet_under k j u i
@@ -182,7 +182,7 @@ module _ (m n : BlockState) (plan : Plan) (p : IsToldPlan m plan) (level index :
     ]
 
     -- each position keeps its block
-    keeps_under : (k j : ℕ) → LiesUnder P (one_block level index) k j → has_position size a.old k j ≡ true → keeps_block a k j ≡ true
+    pub keeps_under : (k j : ℕ) → LiesUnder P (one_block level index) k j → has_position size a.old k j ≡ true → keeps_block a k j ≡ true
     keeps_under k j u had = λ i. (same_under k j u ∙ had) i && not (unfresh_under k j u had i)
 
     -- where a position is there afterwards, it was before

@@ -1,5 +1,6 @@
 use Rattle.std.proofs.Common.{refl}
 use Rattle.qx_ptree.proofs.UnderRows.{words_under}
+use Rattle.qx_ptree.proofs.BuiltSteps.{leaf_own}
 use Rattle.qx_ptree.proofs.BuiltBlocks.{builds_block}
 use Rattle.qx_ptree.proofs.OwnWork.{own_moved}
 use Rattle.qx_ptree.proofs.QuietParts.{is_there}
