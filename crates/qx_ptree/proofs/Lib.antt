@@ -23,3 +23,4 @@ pub mod QuietParts
 pub mod OwnWork
 pub mod BuiltBlocks
 pub mod BuiltSteps
+pub mod GivenUpParts

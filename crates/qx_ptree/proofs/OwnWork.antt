@@ -44,7 +44,7 @@ pub record IsOwnWork (m n : BlockState) (plan : Plan) (work : WorkState) (k j q 
 -- ---- lists of one
 
 -- what is in a list of one
-in_one : (x b : ℕ) → is_in (x ∷ []) b ≡ true → x ≡ b
+pub in_one : (x b : ℕ) → is_in (x ∷ []) b ≡ true → x ≡ b
 in_one x b h = elim (in_cases x b [] h) [ inl is ↦ is | inr none ↦ absurd (cc) ]
 
 -- so with edits

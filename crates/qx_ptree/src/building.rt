@@ -1,5 +1,5 @@
 //! A change is prepared: its fresh blocks are taken and filled, and nothing that the node holds is written.
-ghost use Rattle.std.specs.Prelude.{◌≡◌, ◌≤◌, ◌<◌, ◌+◌, ◌-◌, ◌*◌, ℕ, [], true, false, length, IfOk, OnOk, OnErr, IsTrue, slice_index};
+ghost use Rattle.std.specs.Prelude.{◌≡◌, ◌≤◌, ◌<◌, ◌+◌, ◌-◌, ◌*◌, ◌⊎◌, ℕ, [], true, false, length, IfOk, OnOk, OnErr, IsTrue, slice_index};
 ghost use Rattle.qx_geom.specs.Layout.{levels_for};
 ghost use Rattle.qx_geom.specs.Pointer.{absent, per_block};
 ghost use Rattle.qx_blocks.specs.BlockState.{IsConsistent};
@@ -303,6 +303,7 @@ fn give_up_below<B: Blocks>(
     pointer: u32,
 ) -> Result<(), Stop>
     requires reach { InReach (B.state blocks.old).holdings.size level index }
+    requires within { (level ≤ plan.now.node.levels) ⊎ ¬ (index ≡ 0) }
     requires plan { IsPlan (B.state blocks.old) plan.now }
     requires pointer { IsTrue (B.state blocks.old).tells → pointer ≡ planned_pointer plan.now (B.state blocks.old) level index }
     ensures gone { GivesUp (B.state blocks.old) (B.state blocks.new) work.old work.new plan.now (LiesUnder (per_block (B.state blocks.old).holdings.size) (one_block level index)) result }
@@ -343,6 +344,7 @@ fn give_up_each<B: Blocks>(
     pointers: &[u32],
 ) -> Result<(), Stop>
     requires reach { 0 < length pointers.now → InReach (B.state blocks.old).holdings.size level (first + length pointers.now - 1) }
+    requires within { (level ≤ plan.now.node.levels) ⊎ ¬ (first ≡ 0) }
     requires plan { IsPlan (B.state blocks.old) plan.now }
     requires pointers { IsTrue (B.state blocks.old).tells → (w : ℕ) → w < length pointers.now
         → slice_index pointers.now w ≡ planned_pointer plan.now (B.state blocks.old) level (first + w) }
