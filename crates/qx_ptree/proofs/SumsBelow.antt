@@ -24,6 +24,11 @@ one_if b = if b then 1 else 0
 
 -- ---- sums
 
+-- no number
+pub sum_up_to-start : (f : ℕ → ℕ) → sum_up_to 0 f ≡ 0
+unfolding sum_up_to
+sum_up_to-start f = refl
+
 -- one number more
 pub sum_up_to-more : (n : ℕ) (f : ℕ → ℕ) → sum_up_to (n + 1) f ≡ sum_up_to n f + f n
 unfolding sum_up_to
