@@ -24,3 +24,4 @@ pub mod OwnWork
 pub mod BuiltBlocks
 pub mod BuiltSteps
 pub mod GivenUpParts
+pub mod KeptPlans

@@ -1,6 +1,6 @@
 -- The pointers of a plan's node: each leads to a block that the working tree holds, and stands where the node has a position.
-use Rattle.std.proofs.Common.{◌≡◌, ◌≢◌, ℕ, zero, suc, ◌+◌, ◌*◌, ◌-◌, ◌<◌, ◌≤◌, inl, inr, List, ◌++◌, drop, length, refl, sym, ◌∙◌, ap, subst, arith}
-use Rattle.std.specs.Prelude.{Bool, true, false, not, ◌||◌, ◌==◌, if◌then◌else◌, replicate, slice_index, slice_index_or, IsTrue}
+use Rattle.std.proofs.Common.{◌≡◌, ◌≢◌, ℕ, ◌+◌, ◌*◌, ◌-◌, ◌<◌, ◌≤◌, inl, inr, List, ◌++◌, drop, length, sym, ◌∙◌, ap, subst, arith}
+use Rattle.std.specs.Prelude.{Bool, false, not, ◌||◌, ◌==◌, if◌then◌else◌, replicate, slice_index, slice_index_or, IsTrue}
 use Rattle.std.proofs.lemmas.Bool.{cases_eq, cases_lt}
 use Rattle.std.proofs.lemmas.List.{drop-replicate, get_or-append_right, get_or-replicate, get_or_append_left, get_or_default, get_or_past}
 use Rattle.qx_geom.specs.Pointer.{absent, per_block}
@@ -8,7 +8,6 @@ use Rattle.qx_geom.specs.Positions.{has_position}
 use Rattle.qx_geom.proofs.Truths.{or_left, or_right}
 use Rattle.qx_nodes.specs.BlockMap.{BlockMap, word}
 use Rattle.qx_nodes.specs.ForeignNodes.{has_bare_block, has_strays}
-use Rattle.qx_nodes.specs.Visits.{present_of}
 use Rattle.qx_blocks.specs.BlockState.{BlockState, IsConsistent}
 use Rattle.qx_blocks.specs.Calls.{Keeps}
 use Rattle.qx_ptree.specs.declared.fresh_blocks.Plan.{Plan}
@@ -52,6 +51,10 @@ planned_leads m plan k j p there =
       | inl above ↦ absurd (there (at_above (block_map plan.order m) plan.node k j above))
       | inr h ↦ p.met.works p.told _ (pointer_met (block_map plan.order m) plan.node k j (planned_whole m plan p) h there)
     ]
+
+-- so it is what counts as leading
+pub planned_lead : (m : BlockState) (plan : Plan) (k j q lead : ℕ) → IsToldPlan m plan → q ≡ planned_pointer plan m k j → (Leads m q → lead ≡ q) → lead ≡ planned_pointer plan m k j
+planned_lead m plan k j q lead p is same = same (subst (Leads m) (sym is) (planned_leads m plan k j p)) ∙ is
 
 -- the node has a position where its pointer is there
 pub planned_position : (m : BlockState) (plan : Plan) (k j : ℕ) → IsToldPlan m plan → has_position m.holdings.size (alteration_in plan m).old k j ≡ not (planned_pointer plan m k j == absent)

@@ -1,5 +1,5 @@
 -- The path to a leaf below a node's size leads to blocks that the working tree holds.
-use Rattle.std.proofs.Common.{◌≡◌, ◌≢◌, ℕ, zero, suc, ◌+◌, ◌*◌, ◌-◌, ◌^◌, ◌/◌, ◌%◌, ◌<◌, ◌≤◌, Bool, true, false, List, [], ◌∷◌, length, refl, sym, ◌∙◌, ap, subst, arith}
+use Rattle.std.proofs.Common.{◌≡◌, ◌≢◌, ℕ, zero, suc, ◌+◌, ◌*◌, ◌-◌, ◌^◌, ◌/◌, ◌%◌, ◌<◌, Bool, true, false, List, [], ◌∷◌, length, refl, sym, ◌∙◌, ap, subst, arith}
 use Rattle.std.specs.Prelude.{◌||◌, ◌==◌, nat_lt, nat_le, if◌then◌else◌, Contains, slice_index_or, Option, Result, IfOk, IsTrue}
 use Rattle.std.proofs.Math.Nat.{mod-lt, add-mul, one-mul}
 use Rattle.std.proofs.Math.Numerals.{sub-one}
@@ -14,7 +14,7 @@ use Rattle.qx_geom.specs.Lists.{parts_below}
 use Rattle.qx_geom.specs.Pointer.{absent, ceil_div, per_block}
 use Rattle.qx_geom.proofs.Members.{Contains-cons, Contains-head, Contains-parts}
 use Rattle.qx_nodes.specs.BlockMap.{BlockMap, word}
-use Rattle.qx_nodes.specs.Leaves.{Block, Hole, leaf_under, leaves_below}
+use Rattle.qx_nodes.specs.Leaves.{leaf_under, leaves_below}
 use Rattle.qx_nodes.specs.Visits.{Visit, visits_under}
 use Rattle.qx_nodes.proofs.LeafPaths.{begins_before, by_one, way_down}
 use Rattle.qx_blocks.specs.BlockState.{BlockState, IsConsistent}
@@ -96,25 +96,10 @@ pub path_next : (order : Order) (m : BlockState) (l p i : ℕ) → l ≢ 0 → P
 path_next order m zero p i above leads there = absurd (above refl)
 path_next order m (suc l) p i above leads there = rw sub-one (leads.1 there)
 
--- the pointer at its beginning
-pub path_first : (order : Order) (m : BlockState) (l p i : ℕ) → PathLeads order m l p i → p ≢ absent → IsTrue (m.holdings.works p)
-path_first order m zero p i leads = leads
-path_first order m (suc l) p i leads = leads.0
-
 -- a leaf below a pointer, by the next pointer
 pub leaf_next : (t : BlockMap) (l p i : ℕ) → l ≢ 0 → p ≢ absent → p < t.count → leaf_under t l p i ≡ leaf_under t (l - 1) (word t p (i / per_block t.size ^ (l - 1) % per_block t.size)) i
 leaf_next t zero p i above there low = absurd (above refl)
 leaf_next t (suc l) p i above there low = rw (sub-one, ne_eqb p absent there, lt-ltb p t.count low) refl
-
--- no leaf stands below an absent pointer
-pub leaf_absent : (t : BlockMap) (l p i : ℕ) → p ≡ absent → leaf_under t l p i ≡ Hole
-leaf_absent t zero p i is = rw is refl
-leaf_absent t (suc l) p i is = rw is refl
-
--- a pointer to a leaf
-pub leaf_here : (t : BlockMap) (l p i : ℕ) → l ≡ 0 → p ≢ absent → p < t.count → leaf_under t l p i ≡ Block p
-leaf_here t zero p i is there low = rw (ne_eqb p absent there, lt-ltb p t.count low) refl
-leaf_here t (suc l) p i is there low = absurd (omega arith)
 
 -- ---- over blocks that may stop telling
 

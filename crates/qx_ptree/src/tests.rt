@@ -1,5 +1,8 @@
 //! What changes of nodes take.
-use crate::{Change, leaf, need};
+mod leaves;
+mod quiet;
+
+use crate::{Change, need};
 use qx_blocks::{Blocks, MemBlocks, Stop};
 use qx_fields::Order;
 use qx_geom::{ABSENT, Root};
