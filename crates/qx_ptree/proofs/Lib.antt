@@ -25,3 +25,11 @@ pub mod BuiltBlocks
 pub mod BuiltSteps
 pub mod GivenUpParts
 pub mod KeptPlans
+pub mod ListedBlocks
+pub mod OtherBlocks
+pub mod TakenBlocks
+pub mod GivenUp
+pub mod WrittenEdits
+pub mod AddedWork
+pub mod PreparedBlocks
+pub mod ReadyPaths

@@ -13,6 +13,7 @@ pub record Takes (fresh : List ℕ) (m n : BlockState) : Type 0 where
   pub private : (b : ℕ) → n.holdings.private b ≡ (m.holdings.private b || is_in fresh b)
   pub ready : (b : ℕ) → IsTrue (m.holdings.ready b || is_in fresh b) → IsTrue (n.holdings.ready b)
   pub unheld : (b : ℕ) → is_in fresh b ≡ true → m.holdings.held b ≡ false
+  pub unused : (b : ℕ) → is_in fresh b ≡ true → (m.holdings.works b ≡ false) × (m.holdings.private b ≡ false) × (m.holdings.ready b ≡ false)
   pub distinct : Distinct fresh
   pub free : n.holdings.free + length fresh ≡ m.holdings.free
   pub ready_bytes : (b : ℕ) → IsTrue (m.holdings.ready b) → n.bytes b ≡ m.bytes b

@@ -1,12 +1,16 @@
 //! A change is prepared: its fresh blocks are taken and filled, and nothing that the node holds is written.
+<<<<<<< HEAD
 ghost use Rattle.std.specs.Prelude.{◌≡◌, ◌≤◌, ◌<◌, ◌+◌, ◌-◌, ◌*◌, ◌⊎◌, ℕ, [], true, false, length, IfOk, OnOk, OnErr, IsTrue, slice_index};
+=======
+ghost use Rattle.std.specs.Prelude.{◌≡◌, ◌≤◌, ◌<◌, ◌+◌, ◌-◌, ◌*◌, ℕ, ◌∷◌, ◌++◌, [], true, false, length, IfOk, OnOk, OnErr, IsTrue, slice_index};
+>>>>>>> 7219edcb24382a1ee12ef46177dc82ed14a7140b
 ghost use Rattle.qx_geom.specs.Layout.{levels_for};
 ghost use Rattle.qx_geom.specs.Pointer.{absent, per_block};
 ghost use Rattle.qx_blocks.specs.BlockState.{IsConsistent};
-ghost use Rattle.qx_blocks.specs.Calls.{HasStopCause, Keeps};
+ghost use Rattle.qx_blocks.specs.Calls.{HasStopCause, Keeps, MakesReady};
 ghost use Rattle.qx_ptree.specs.Alterations.{alteration_of, fresh_count};
 ghost use Rattle.qx_ptree.specs.Altered.{IsPrepared};
-ghost use Rattle.qx_ptree.specs.Building.{BuildsOnto, BuildsTree, GivesUp, LiesOnSpine, LiesOutside, LiesUnder, WritesBlock, WritesLeaf, one_block};
+ghost use Rattle.qx_ptree.specs.Building.{BuildsOnto, BuildsTree, GivesUp, LiesOnSpine, LiesOutside, LiesUnder, WritesBlock, WritesLeaf, one_block, pointer_bytes};
 ghost use Rattle.qx_ptree.specs.Fates.{IsChange, leaves_after};
 ghost use Rattle.qx_ptree.specs.Parts.{part_of};
 ghost use Rattle.qx_ptree.specs.Plans.{InReach, IsPlan, alteration_in, planned_pointer};
@@ -274,22 +278,70 @@ fn prepare_block<B: Blocks>(
         }
         return Ok(ABSENT);
     }
-    if had && !changed {
+    if !had {
+        return take_filled(blocks, order, work, pointers);
+    }
+    if !changed {
         return Ok(pointer);
     }
-    if had && blocks.is_private(pointer) {
-        let mut bytes = vec![in alloc; 0; blocks.size()]?;
-        put32s(order, bytes.as_mut_slice(), 0, pointers);
-        work.keep(blocks, pointer)?;
-        work.edit_later(pointer, bytes)?;
+    if blocks.is_private(pointer) {
+        edit_block(alloc, blocks, order, work, pointer, pointers)?;
         return Ok(pointer);
     }
+    // A block that other trees hold stays as it is.
+    let b = take_filled(blocks, order, work, pointers)?;
+    work.give_up(pointer)?;
+    Ok(b)
+}
+
+// Takes a block that has these pointers.
+fn take_filled<B: Blocks>(
+    blocks: &mut B,
+    order: Order,
+    work: &mut Work,
+    pointers: &[u32],
+) -> Result<u32, Stop>
+    requires long { length pointers.now ≡ per_block (B.state blocks.old).holdings.size }
+    ensures takes { IfOk result (λ b. Takes (b ∷ []) (B.state blocks.old) (B.state blocks.new)) }
+    ensures bytes { IfOk result (λ b. (B.state blocks.new).bytes b ≡ pointer_bytes order pointers.now) }
+    ensures noted { IfOk result (λ b. work.new ≡ record work.old { fresh = work.old.fresh ++ b ∷ [] }) }
+
+    ensures err { OnErr result (Keeps (B.state blocks.old) (B.state blocks.new)) }
+    ensures same { OnErr result (work.new ≡ work.old) }
+    ensures aside { B.Blocks.aside blocks.new ≡ B.Blocks.aside blocks.old }
+    ensures cause { HasStopCause (B.faults blocks.old) (B.faults blocks.new) result }
+{
     let b = work.take(blocks)?;
     put32s(order, blocks.edit(b), 0, pointers);
-    if had {
-        work.give_up(pointer)?;
-    }
     Ok(b)
+}
+
+// The commit is to give these pointers to a block that stays where it is.
+fn edit_block<B: Blocks>(
+    alloc: Global,
+    blocks: &mut B,
+    order: Order,
+    work: &mut Work,
+    pointer: u32,
+    pointers: &[u32],
+) -> Result<(), Stop>
+    requires private { IsTrue ((B.state blocks.old).holdings.private pointer) }
+    requires long { length pointers.now ≡ per_block (B.state blocks.old).holdings.size }
+    ensures ready { OnOk result (MakesReady pointer (B.state blocks.old) (B.state blocks.new)) }
+    ensures noted { OnOk result (work.new ≡ record work.old {
+        edits = work.old.edits ++ (record { block = pointer; bytes = pointer_bytes order pointers.now }) ∷ [];
+        kept = work.old.kept ++ pointer ∷ [];
+    }) }
+    ensures size { length (pointer_bytes order pointers.now) ≡ (B.state blocks.new).holdings.size }
+
+    ensures err { OnErr result (Adds (B.state blocks.old) (B.state blocks.new) work.old work.new) }
+    ensures aside { B.Blocks.aside blocks.new ≡ B.Blocks.aside blocks.old }
+    ensures cause { HasStopCause (B.faults blocks.old) (B.faults blocks.new) result }
+{
+    let mut bytes = vec![in alloc; 0; blocks.size()]?;
+    put32s(order, bytes.as_mut_slice(), 0, pointers);
+    work.keep(blocks, pointer)?;
+    work.edit_later(pointer, bytes)
 }
 
 // Gives up block `index` of a level, to which `pointer` leads, and all below it.

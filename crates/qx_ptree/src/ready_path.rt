@@ -1,6 +1,7 @@
 //! Where a leaf stands whose path is ready to be written.
 ghost use Rattle.std.specs.Prelude.{◌≡◌, ◌<◌, ◌≤◌, IsTrue, Some};
-ghost use Rattle.qx_geom.specs.Pointer.{ceil_div};
+ghost use Rattle.qx_geom.specs.Pointer.{ceil_div, per_block};
+ghost use Rattle.qx_nodes.specs.BlockMap.{word};
 ghost use Rattle.qx_nodes.specs.Leaves.{Block, leaf_of, leaf_under};
 ghost use Rattle.qx_ptree.specs.Altered.{IsReadyLeaf};
 ghost use Rattle.qx_ptree.specs.Trees.{HasLevels, IsReadyPath, block_map, pointer_at};
@@ -44,12 +45,25 @@ fn ready_below<B: Blocks>(blocks: &mut B, order: Order, level: u8, pointer: u32,
     ensures aside { B.Blocks.aside blocks.new ≡ B.Blocks.aside blocks.old }
     ensures faults { B.faults blocks.new ≡ B.faults blocks.old }
 {
+    let words = blocks.size() as u64 / 4;
     if level == 0 {
         return pointer;
     }
-    let words = blocks.size() as u64 / 4;
     let word = index / words.pow(u32::from(level) - 1) % words;
-    // A block that is lent for writing is lent without fail, and here it isn't written.
-    let next = get32(order, blocks.edit(pointer), 4 * word as usize);
+    let next = ready_word(blocks, order, pointer, word);
     ready_below(blocks, order, level - 1, next, index)
+}
+
+// A word of a pointer block that is ready.
+fn ready_word<B: Blocks>(blocks: &mut B, order: Order, pointer: u32, w: u64) -> u32
+    requires ready { IsTrue ((B.state blocks.old).holdings.ready pointer) }
+    requires within { w < per_block (B.state blocks.old).holdings.size }
+    ensures word { result ≡ word (block_map order (B.state blocks.old)) pointer w }
+
+    ensures same { B.state blocks.new ≡ B.state blocks.old }
+    ensures aside { B.Blocks.aside blocks.new ≡ B.Blocks.aside blocks.old }
+    ensures faults { B.faults blocks.new ≡ B.faults blocks.old }
+{
+    // A block that is lent for writing is lent without fail, and here it isn't written.
+    get32(order, blocks.edit(pointer), 4 * w as usize)
 }

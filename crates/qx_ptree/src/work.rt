@@ -2,7 +2,7 @@
 ghost use Rattle.std.specs.Prelude.{◌≡◌, ◌<◌, ◌∷◌, ◌++◌, [], false, length, IfOk, IfErr, OnOk, OnErr, IsTrue};
 ghost use Rattle.std.specs.List.{list_any};
 ghost use Rattle.qx_geom.specs.Lists.{is_in};
-ghost use Rattle.qx_blocks.specs.BlockState.{with_bytes, with_fresh};
+ghost use Rattle.qx_blocks.specs.BlockState.{IsConsistent, with_bytes, with_fresh};
 ghost use Rattle.qx_blocks.specs.Calls.{HasStopCause, Keeps, MakesReady};
 ghost use Rattle.qx_ptree.specs.Takings.{LeavesOthers, Takes};
 ghost use Rattle.qx_ptree.specs.WorkState.{CanEdit, all_blocks, no_work, with_edits, without_all};
@@ -52,6 +52,7 @@ impl Work {
 
     // Takes a block.
     pub(crate) fn take<B: Blocks>(&mut self, blocks: &mut B) -> Result<u32, Stop>
+        ensures consistent { IsConsistent (B.state blocks.old) }
         ensures taken { IfOk result (λ b. B.state blocks.new ≡ with_fresh (B.state blocks.old) b) }
         ensures unheld { IfOk result (λ b. (B.state blocks.old).holdings.held b ≡ false) }
         ensures room { IfOk result (λ b. 0 < (B.state blocks.old).holdings.free) }
@@ -77,6 +78,7 @@ impl Work {
     // Takes a block with the bytes of another.
     pub(crate) fn take_copy<B: Blocks>(&mut self, blocks: &mut B, from: u32) -> Result<u32, Stop>
         requires { IsTrue ((B.state blocks.old).holdings.held from) }
+        ensures consistent { IsConsistent (B.state blocks.old) }
         ensures unheld { IfOk result (λ b. (B.state blocks.old).holdings.held b ≡ false) }
         ensures room { IfOk result (λ b. 0 < (B.state blocks.old).holdings.free) }
         ensures holdings { IfOk result (λ b. (B.state blocks.new).holdings ≡ (with_fresh (B.state blocks.old) b).holdings) }
