@@ -1,25 +1,26 @@
 -- The blocks of a part of a node, as they are noted to be given up.
-use Rattle.std.proofs.Common.{◌≡◌, ◌≢◌, ℕ, zero, suc, ◌+◌, ◌*◌, ◌-◌, ◌^◌, ◌/◌, ◌<◌, ◌≤◌, ◌⊎◌, inl, inr, List, [], ◌∷◌, ◌++◌, append-nil, append_assoc, refl, sym, ◌∙◌, ap, subst, arith}
+use Rattle.std.proofs.Common.{◌≡◌, ◌≢◌, ℕ, zero, suc, ◌+◌, ◌*◌, ◌-◌, ◌^◌, ◌/◌, ◌<◌, ◌≤◌, ◌⊎◌, inl, inr, List, [], ◌∷◌, ◌++◌, length, append-nil, append_assoc, refl, sym, ◌∙◌, ap, subst, arith}
 use Rattle.std.specs.Prelude.{Bool, true, false, not, ◌==◌, IsTrue, Result, Ok, Err, OnOk}
 use Rattle.std.specs.Result.{IsErr}
 use Rattle.std.proofs.Math.Nat.{mul-le-mul_right}
+use Rattle.std.proofs.Math.Numerals.{sub-one}
 use Rattle.std.proofs.lemmas.Bool.{cases_lt, eq-eqb}
 use Rattle.std.proofs.lemmas.Result.{on_ok_weaker}
 use Rattle.qx_geom.specs.Lists.{is_in}
 use Rattle.qx_geom.specs.Pointer.{absent, per_block}
 use Rattle.qx_geom.proofs.Members.{in_append_cases, in_head, in_left, in_right}
 use Rattle.qx_blocks.specs.declared.blocks.Stop.{Stop}
-use Rattle.qx_blocks.specs.BlockState.{BlockState}
+use Rattle.qx_blocks.specs.BlockState.{BlockState, IsConsistent}
 use Rattle.qx_blocks.specs.Calls.{Keeps}
 use Rattle.qx_ptree.specs.declared.fresh_blocks.Plan.{Plan}
 use Rattle.qx_ptree.specs.Building.{GivesUp, IsBlocksOf, LiesOnSpine, LiesOutside, LiesUnder, one_block, with_released}
-use Rattle.qx_ptree.specs.Fates.{IsChange}
 use Rattle.qx_ptree.specs.Parts.{has_below}
 use Rattle.qx_ptree.specs.Plans.{InReach, IsPlan, alteration_in, planned_pointer}
-use Rattle.qx_ptree.specs.Trees.{HasLevels, IsRegular, IsWorking, block_map}
+use Rattle.qx_ptree.specs.Trees.{Leads, block_map}
 use Rattle.qx_ptree.specs.WorkState.{WorkState}
 use Rattle.qx_ptree.proofs.OwnWork.{in_one}
-use Rattle.qx_ptree.proofs.PlannedPointers.{IsToldPlan, planned_above, planned_below}
+use Rattle.qx_ptree.proofs.PlannedPointers.{IsToldPlan, planned_above, planned_below, planned_lead}
+use Rattle.qx_ptree.proofs.PointerCounts.{words_positive}
 use Rattle.qx_ptree.proofs.PointersByPosition.{at_above}
 use Rattle.qx_ptree.proofs.QuietParts.{none_below_block, not_there}
 use Rattle.qx_ptree.proofs.UnderRows.{none_under, own_under, row_before, row_last, row_more, under_own, under_words, words_under}
@@ -94,19 +95,6 @@ blocks_leaf m plan P index there = blocks_one m plan (LiesUnder P (one_block 0 i
 
 -- ---- noted one after another
 
--- a call that keeps the blocks leaves a plan's conditions
-pub plan_kept : (m n : BlockState) (plan : Plan) → Keeps m n → IsPlan m plan → IsPlan n plan
-plan_kept m n plan keeps p = record {
-  levels = subst (λ h. HasLevels h.size plan.node) (sym keeps.holdings) p.levels;
-  change = subst (λ h. IsChange h.size plan.change) (sym keeps.holdings) p.change;
-  works = λ told. subst (λ x. IsWorking plan.order x plan.node) (sym (keeps.told told)) (p.works (subst (λ x. IsTrue x.tells) (keeps.told told) told));
-  regular = λ told. subst (λ x. IsRegular plan.order x plan.node) (sym (keeps.told told)) (p.regular (subst (λ x. IsTrue x.tells) (keeps.told told) told));
-}
-
--- and its pointers
-pub pointer_kept : (m n : BlockState) (plan : Plan) (k j q : ℕ) → Keeps m n → (IsTrue m.tells → q ≡ planned_pointer plan m k j) → IsTrue n.tells → q ≡ planned_pointer plan n k j
-pointer_kept m n plan k j q keeps is told = is (subst (λ x. IsTrue x.tells) (keeps.told told) told) ∙ ap (λ x. planned_pointer plan x k j) (sym (keeps.told told))
-
 -- a position before one in reach is in reach
 pub reach_before : (b level i j : ℕ) → i ≤ j → InReach b level j → InReach b level i
 reach_before b level i j h r =
@@ -146,4 +134,56 @@ gives_then m n o before mid after plan one other inside result k l a b join = re
       let told_n : IsTrue n.tells = subst (λ x. IsTrue x.tells) (l.told told) told in
       let told_m : IsTrue m.tells = subst (λ x. IsTrue x.tells) (k.told told_n) told_n in
       join told_m a.blocks b.blocks (a.done told_n) (blocks_kept m n plan other b.blocks (k.told told_n) (f told))) b.done;
+}
+
+-- ---- as the calls give them up
+
+-- a pointer that leads nowhere has nothing below it
+pub gives_none : (m : BlockState) (plan : Plan) (level index p lead : ℕ) (w : WorkState) → IsConsistent m → length plan.node.pointers ≡ 16 → IsPlan m plan → (level ≤ plan.node.levels) ⊎ (index ≢ 0) → (IsTrue m.tells → p ≡ planned_pointer plan m level index) → (Leads m p → lead ≡ p) → lead ≡ absent
+    → GivesUp m m w w plan (LiesUnder (per_block m.holdings.size) (one_block level index)) (Ok tt)
+gives_none m plan level index p lead w s long met within is same none = record {
+  blocks = [];
+  is = released_none w;
+  done = λ told.
+      let p_told : IsToldPlan m plan = record { consistent = s; long = long; met = met; told = told } in
+      let old : planned_pointer plan m level index ≡ absent = sym (planned_lead m plan level index p lead p_told (is told) same) ∙ none in
+      blocks_none m plan (LiesUnder (per_block m.holdings.size) (one_block level index)) (λ k j u. absent_under m plan level index k j p_told within old u);
+}
+
+-- a leaf is given up
+pub gives_leaf : (m : BlockState) (plan : Plan) (level index p lead : ℕ) (before after : WorkState) → IsConsistent m → length plan.node.pointers ≡ 16 → IsPlan m plan → (IsTrue m.tells → p ≡ planned_pointer plan m level index) → (Leads m p → lead ≡ p) → lead ≢ absent → level ≡ 0
+    → after ≡ record before { released = before.released ++ lead ∷ [] } → GivesUp m m before after plan (LiesUnder (per_block m.holdings.size) (one_block level index)) (Ok tt)
+gives_leaf m plan level index p lead before after s long met is same there leaf noted = record {
+  blocks = lead ∷ [];
+  is = noted;
+  done = λ told.
+      let p_told : IsToldPlan m plan = record { consistent = s; long = long; met = met; told = told } in
+      let old : lead ≡ planned_pointer plan m 0 index = planned_lead m plan level index p lead p_told (is told) same ∙ ap (λ k. planned_pointer plan m k index) leaf in
+      subst (λ q. IsBlocksOf m plan (LiesUnder (per_block m.holdings.size) (one_block level index)) (q ∷ [])) (sym old)
+      (subst (λ l. IsBlocksOf m plan (LiesUnder (per_block m.holdings.size) (one_block l index)) (planned_pointer plan m 0 index ∷ [])) (sym leaf)
+      (blocks_leaf m plan (per_block m.holdings.size) index (λ e. there (old ∙ e))));
+}
+
+-- a block is given up, and what stands below its words
+pub gives_block : (m n o : BlockState) (plan : Plan) (level index p lead words : ℕ) (before mid after : WorkState) (result : Result (Unit {0}) Stop) → IsConsistent m → length plan.node.pointers ≡ 16 → IsPlan m plan → (IsTrue m.tells → p ≡ planned_pointer plan m level index) → (Leads m p → lead ≡ p) → lead ≢ absent
+    → level ≢ 0 → words ≡ per_block m.holdings.size → Keeps m n → Keeps n o → mid ≡ record before { released = before.released ++ lead ∷ [] }
+    → GivesUp n o mid after plan (LiesUnder (per_block n.holdings.size) (record { level = level - 1; first = index * words; count = words })) result
+    → GivesUp m o before after plan (LiesUnder (per_block m.holdings.size) (one_block level index)) result
+gives_block m n o plan zero index p lead words before mid after result s long met is same there above size k l noted b = absurd (above refl)
+gives_block m n o plan (suc level) index p lead words before mid after result s long met is same there above size k l noted b = record {
+  blocks = lead ∷ b.blocks;
+  is = released_twice before mid after (lead ∷ []) b.blocks noted b.is;
+  done = on_ok_weaker result (λ f told.
+      let told_n : IsTrue n.tells = subst (λ x. IsTrue x.tells) (l.told told) told in
+      let same_n : n ≡ m = k.told told_n in
+      let told_m : IsTrue m.tells = subst (λ x. IsTrue x.tells) same_n told_n in
+      let p_told : IsToldPlan m plan = record { consistent = s; long = long; met = met; told = told_m } in
+      let P : ℕ = per_block m.holdings.size in
+      let old : lead ≡ planned_pointer plan m (suc level) index = planned_lead m plan (suc level) index p lead p_told (is told_m) same in
+      let below : IsBlocksOf m plan (LiesUnder P (record { level = level; first = index * P; count = P })) b.blocks =
+      subst (λ w. IsBlocksOf m plan (LiesUnder P (record { level = level; first = index * w; count = w })) b.blocks) size
+      (subst (λ x. IsBlocksOf x plan (LiesUnder (per_block x.holdings.size) (record { level = level; first = index * words; count = words })) b.blocks) same_n
+      (subst (λ y. IsBlocksOf n plan (LiesUnder (per_block n.holdings.size) (record { level = y; first = index * words; count = words })) b.blocks) (sub-one (suc level)) (f told))) in
+      subst (λ q. IsBlocksOf m plan (LiesUnder P (one_block (suc level) index)) (q ∷ b.blocks)) (sym old)
+      (blocks_above m plan P level index b.blocks (words_positive m.holdings.size s.size) (λ e. there (old ∙ e)) below)) b.done;
 }

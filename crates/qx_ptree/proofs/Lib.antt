@@ -24,6 +24,7 @@ pub mod OwnWork
 pub mod BuiltBlocks
 pub mod BuiltSteps
 pub mod GivenUpParts
+pub mod RowSlices
 pub mod KeptPlans
 pub mod ListedBlocks
 pub mod OtherBlocks
