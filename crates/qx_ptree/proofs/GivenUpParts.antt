@@ -42,9 +42,9 @@ blocks_one m plan inside k j here there alone =
 
 -- those of two parts
 pub blocks_join : (m : BlockState) (plan : Plan) (one other inside : ℕ → ℕ → Type 0) (xs ys : List ℕ) → IsBlocksOf m plan one xs → IsBlocksOf m plan other ys
-    → ((k j : ℕ) → inside k j → one k j ⊎ other k j) → ((k j : ℕ) → one k j → inside k j) → ((k j : ℕ) → other k j → inside k j) → IsBlocksOf m plan inside (xs ++ ys)
+    → ((k j : ℕ) → inside k j → planned_pointer plan m k j ≢ absent → one k j ⊎ other k j) → ((k j : ℕ) → one k j → inside k j) → ((k j : ℕ) → other k j → inside k j) → IsBlocksOf m plan inside (xs ++ ys)
 blocks_join m plan one other inside xs ys a b cases left right = record {
-  all = λ k j h there. elim (cases k j h) [ inl x ↦ in_left xs ys (planned_pointer plan m k j) (a.all k j x there) | inr x ↦ in_right xs ys (planned_pointer plan m k j) (b.all k j x there) ];
+  all = λ k j h there. elim (cases k j h there) [ inl x ↦ in_left xs ys (planned_pointer plan m k j) (a.all k j x there) | inr x ↦ in_right xs ys (planned_pointer plan m k j) (b.all k j x there) ];
   only = λ q s. elim (in_append_cases xs ys q s) [
     | inl x ↦ let r = a.only q x in (r.0, r.1, left r.0 r.1 r.2, r.3, r.4)
     | inr x ↦ let r = b.only q x in (r.0, r.1, right r.0 r.1 r.2, r.3, r.4)
@@ -77,7 +77,7 @@ pub blocks_more : (m : BlockState) (plan : Plan) (P level first count : ℕ) (xs
     → IsBlocksOf m plan (LiesUnder P (record { level = level; first = first; count = count + 1 })) (xs ++ ys)
 blocks_more m plan P level first count xs ys a b =
     blocks_join m plan (LiesUnder P (record { level = level; first = first; count = count })) (LiesUnder P (one_block level (first + count))) (LiesUnder P (record { level = level; first = first; count = count + 1 })) xs ys a b
-    (row_more P level first count) (row_before P level first count) (row_last P level first count)
+    (λ k j u there. row_more P level first count k j u) (row_before P level first count) (row_last P level first count)
 
 -- a block and those below its words
 pub blocks_above : (m : BlockState) (plan : Plan) (P l index : ℕ) (xs : List ℕ) → 0 < P → planned_pointer plan m (suc l) index ≢ absent → IsBlocksOf m plan (LiesUnder P (record { level = l; first = index * P; count = P })) xs
@@ -85,7 +85,7 @@ pub blocks_above : (m : BlockState) (plan : Plan) (P l index : ℕ) (xs : List �
 blocks_above m plan P l index xs some there b =
     blocks_join m plan (λ h i. (h ≡ suc l) × (i ≡ index)) (LiesUnder P (record { level = l; first = index * P; count = P })) (LiesUnder P (one_block (suc l) index)) (planned_pointer plan m (suc l) index ∷ []) xs
     (blocks_one m plan (λ h i. (h ≡ suc l) × (i ≡ index)) (suc l) index (refl, refl) there (λ h i s. s)) b
-    (λ k j u. elim (cases_lt k (suc l)) [ inl low ↦ inr (under_words P l index k j some (omega arith) u) | inr high ↦ inl (under_own P (suc l) index k j u high) ])
+    (λ k j u there. elim (cases_lt k (suc l)) [ inl low ↦ inr (under_words P l index k j some (omega arith) u) | inr high ↦ inl (under_own P (suc l) index k j u high) ])
     (λ k j at. subst (λ x. LiesUnder P (one_block (suc l) index) x j) (sym at.0) (subst (λ y. LiesUnder P (one_block (suc l) index) (suc l) y) (sym at.1) (own_under P (suc l) index)))
     (words_under P l index)
 

@@ -25,6 +25,7 @@ pub mod BuiltBlocks
 pub mod BuiltSteps
 pub mod GivenUpParts
 pub mod RowSlices
+pub mod SpineParts
 pub mod KeptPlans
 pub mod ListedBlocks
 pub mod OtherBlocks
