@@ -421,6 +421,7 @@ fn give_up_outside<B: Blocks>(
     work: &mut Work,
     level: u8,
 ) -> Result<(), Stop>
+    requires consistent { IsConsistent (B.state blocks.old) }
     requires long { length plan.now.node.pointers ≡ 16 }
     requires plan { IsPlan (B.state blocks.old) plan.now }
     ensures gone { GivesUp (B.state blocks.old) (B.state blocks.new) work.old work.new plan.now (LiesOutside (per_block (B.state blocks.old).holdings.size) level) result }
