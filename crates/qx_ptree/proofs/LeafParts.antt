@@ -101,7 +101,7 @@ abbrev changes : Bool → Bool → Bool → Bool
 changes w h r = w || ((r && not h) || (h && not r))
 
 -- whether a leaf changed
-in_changed-is : (old new : Shape) (written : List ℕ) (i : ℕ) → is_in (changed_leaves old new written) i ≡ changes (is_in written i) (is_in old.present i) (is_in new.present i)
+pub in_changed-is : (old new : Shape) (written : List ℕ) (i : ℕ) → is_in (changed_leaves old new written) i ≡ changes (is_in written i) (is_in old.present i) (is_in new.present i)
 in_changed-is old new written i =
     list_any-append (λ y. nat_eq y i) written (leaves_without new old ++ leaves_without old new)
     ∙ ap (λ b. is_in written i || b) (list_any-append (λ y. nat_eq y i) (leaves_without new old) (leaves_without old new)

@@ -32,6 +32,17 @@ pub mod ReachedBlocks
 pub mod EditedBlocks
 pub mod ReadyNodes
 pub mod ReachedSteps
+pub mod LeavesByPointer
+pub mod CarriedPlans
+pub mod CarriedBuilds
+pub mod BuiltRows
+pub mod QuietParts
+pub mod OwnWork
+pub mod BuiltBlocks
+pub mod BuiltSteps
+pub mod GivenUpParts
+pub mod RowSlices
+pub mod SpineParts
 pub mod ListedBlocks
 pub mod OtherBlocks
 pub mod TakenBlocks

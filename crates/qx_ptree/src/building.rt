@@ -1,5 +1,5 @@
 //! A change is prepared: its fresh blocks are taken and filled, and nothing that the node holds is written.
-ghost use Rattle.std.specs.Prelude.{◌≡◌, ◌≤◌, ◌<◌, ◌+◌, ◌-◌, ◌*◌, ℕ, ◌∷◌, ◌++◌, [], true, false, length, IfOk, OnOk, OnErr, IsTrue, slice_index};
+ghost use Rattle.std.specs.Prelude.{◌≡◌, ◌≤◌, ◌<◌, ◌+◌, ◌-◌, ◌*◌, ◌⊎◌, ℕ, ◌∷◌, ◌++◌, [], true, false, length, IfOk, OnOk, OnErr, IsTrue, slice_index};
 ghost use Rattle.qx_geom.specs.Layout.{levels_for};
 ghost use Rattle.qx_geom.specs.Pointer.{absent, per_block};
 ghost use Rattle.qx_blocks.specs.BlockState.{IsConsistent};
@@ -84,6 +84,7 @@ fn prepare_tree<B: Blocks>(
     plan: &Plan,
     work: &mut Work,
 ) -> Result<Root, Stop>
+    requires long { length plan.now.node.pointers ≡ 16 }
     requires plan { IsPlan (B.state blocks.old) plan.now }
     ensures adds { Adds (B.state blocks.old) (B.state blocks.new) work.old work.new }
     ensures built { IfOk result (λ root. (adds : Adds (B.state blocks.old) (B.state blocks.new) work.old work.new)
@@ -118,6 +119,7 @@ fn prepare_at<B: Blocks>(
 ) -> Result<Below, Stop>
     requires reach { InReach (B.state blocks.old).holdings.size level index }
     requires level { level ≤ levels_for (B.state blocks.old).holdings.size (leaves_after (B.state blocks.old).holdings.size plan.now.change) }
+    requires long { length plan.now.node.pointers ≡ 16 }
     requires plan { IsPlan (B.state blocks.old) plan.now }
     requires pointer { IsTrue (B.state blocks.old).tells → pointer ≡ planned_pointer plan.now (B.state blocks.old) level index }
     ensures built { IfOk result (λ below. BuildsOnto (B.state blocks.old) (B.state blocks.new) work.old work.new plan.now (one_block level index) (λ _. below.pointer)) }
@@ -189,6 +191,7 @@ fn prepare_leaf<B: Blocks>(
     index: u64,
     pointer: u32,
 ) -> Result<Below, Stop>
+    requires long { length plan.now.node.pointers ≡ 16 }
     requires plan { IsPlan (B.state blocks.old) plan.now }
     requires leads { ¬ (pointer ≡ absent) → IsTrue ((B.state blocks.old).holdings.works pointer) }
     requires pointer { IsTrue (B.state blocks.old).tells → pointer ≡ planned_pointer plan.now (B.state blocks.old) 0 index }
@@ -349,6 +352,8 @@ fn give_up_below<B: Blocks>(
     pointer: u32,
 ) -> Result<(), Stop>
     requires reach { InReach (B.state blocks.old).holdings.size level index }
+    requires within { (level ≤ plan.now.node.levels) ⊎ ¬ (index ≡ 0) }
+    requires long { length plan.now.node.pointers ≡ 16 }
     requires plan { IsPlan (B.state blocks.old) plan.now }
     requires pointer { IsTrue (B.state blocks.old).tells → pointer ≡ planned_pointer plan.now (B.state blocks.old) level index }
     ensures gone { GivesUp (B.state blocks.old) (B.state blocks.new) work.old work.new plan.now (LiesUnder (per_block (B.state blocks.old).holdings.size) (one_block level index)) result }
@@ -389,6 +394,9 @@ fn give_up_each<B: Blocks>(
     pointers: &[u32],
 ) -> Result<(), Stop>
     requires reach { 0 < length pointers.now → InReach (B.state blocks.old).holdings.size level (first + length pointers.now - 1) }
+    requires within { (level ≤ plan.now.node.levels) ⊎ ¬ (first ≡ 0) }
+    requires consistent { IsConsistent (B.state blocks.old) }
+    requires long { length plan.now.node.pointers ≡ 16 }
     requires plan { IsPlan (B.state blocks.old) plan.now }
     requires pointers { IsTrue (B.state blocks.old).tells → (w : ℕ) → w < length pointers.now
         → slice_index pointers.now w ≡ planned_pointer plan.now (B.state blocks.old) level (first + w) }
@@ -411,6 +419,8 @@ fn give_up_outside<B: Blocks>(
     work: &mut Work,
     level: u8,
 ) -> Result<(), Stop>
+    requires consistent { IsConsistent (B.state blocks.old) }
+    requires long { length plan.now.node.pointers ≡ 16 }
     requires plan { IsPlan (B.state blocks.old) plan.now }
     ensures gone { GivesUp (B.state blocks.old) (B.state blocks.new) work.old work.new plan.now (LiesOutside (per_block (B.state blocks.old).holdings.size) level) result }
 
@@ -436,6 +446,7 @@ fn give_up_spine<B: Blocks>(
     pointer: u32,
 ) -> Result<(), Stop>
     requires above { (level < above) × (above ≤ plan.now.node.levels) }
+    requires long { length plan.now.node.pointers ≡ 16 }
     requires plan { IsPlan (B.state blocks.old) plan.now }
     requires pointer { IsTrue (B.state blocks.old).tells → pointer ≡ planned_pointer plan.now (B.state blocks.old) above 0 }
     ensures gone { GivesUp (B.state blocks.old) (B.state blocks.new) work.old work.new plan.now (LiesOnSpine (per_block (B.state blocks.old).holdings.size) level above) result }
