@@ -48,8 +48,8 @@ under_pointer m node (suc l) d i pos low at =
     (λ there. (
       subst (λ q. q < m.count) is (low (suc l) (i / P ^ suc l) (omega arith) (λ e. there (sym is ∙ e))),
       ap (λ q. leaf_under m l q i)
-      (sym (ap (λ q. if q == absent then absent else word m q (i / P ^ l % P)) (ap (pointer_from m node d) up) ∙ ap (λ b. if b then absent else word m p (i / P ^ l % P)) (ne_eqb p absent there)))
-      ∙ under_pointer m node l (suc d) i pos low (omega arith),
+          (sym (ap (λ q. if q == absent then absent else word m q (i / P ^ l % P)) (ap (pointer_from m node d) up) ∙ ap (λ b. if b then absent else word m p (i / P ^ l % P)) (ne_eqb p absent there)))
+          ∙ under_pointer m node l (suc d) i pos low (omega arith),
     ))
     (λ none. elim (cases_eq (pointer_at m node 0 i) absent) [
       | inl e ↦ ap (λ b. if b then Hole else Block (pointer_at m node 0 i)) (eq-eqb (pointer_at m node 0 i) absent e)

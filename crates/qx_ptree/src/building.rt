@@ -10,9 +10,11 @@ ghost use Rattle.qx_ptree.specs.Building.{BuildsOnto, BuildsTree, GivesUp, LiesO
 ghost use Rattle.qx_ptree.specs.Fates.{IsChange, leaves_after};
 ghost use Rattle.qx_ptree.specs.Parts.{part_of};
 ghost use Rattle.qx_ptree.specs.Plans.{InReach, IsPlan, alteration_in, planned_pointer};
+ghost use Rattle.qx_ptree.specs.Reaching.{ReachesOnto};
+ghost use Rattle.qx_ptree.specs.ReadyLeaves.{IsReadyApart, IsWrittenBy, OwnAsLeft};
 ghost use Rattle.qx_ptree.specs.Takings.{Adds, Takes};
 ghost use Rattle.qx_ptree.specs.Trees.{HasLevels, IsRegular, IsWorking};
-ghost use Rattle.qx_ptree.specs.WorkState.{CanCommit};
+ghost use Rattle.qx_ptree.specs.WorkState.{CanCommit, committed};
 
 use crate::change::{Change, Fate, leaf_fate};
 use crate::fresh_blocks::{Plan, alike_fate};
@@ -49,8 +51,14 @@ pub fn prepare<B: Blocks>(
     requires room { IsTrue (B.state blocks.old).tells → fresh_count (alteration_of order (B.state blocks.old) node.now change.now) ≤ (B.state blocks.old).holdings.free }
     ensures node { IfOk result (λ p. p.node ≡ node.now) }
     ensures change { IfOk result (λ p. p.change ≡ change.now) }
+    ensures size { IfOk result (λ p. p.root.size ≡ change.now.size) }
+    ensures levels { IfOk result (λ p. HasLevels (B.state blocks.old).holdings.size p.root) }
     ensures takes { IfOk result (λ p. Takes p.work.fresh (B.state blocks.old) (B.state blocks.new)) }
     ensures ready { IfOk result (λ p. CanCommit (B.state blocks.new) p) }
+
+    // What is written is ready once it is committed, also where bytes aren't told.
+    ensures written { IfOk result (λ p. (m : _) → OwnAsLeft p (B.state blocks.new) m → IsReadyApart order (committed m p) p.root (IsWrittenBy change.now)) }
+
     ensures prepared { IfOk result (λ p. IsTrue (B.state blocks.new).tells → IsPrepared order (B.state blocks.old) (B.state blocks.new) p) }
 
     ensures err { OnErr result (Takes [] (B.state blocks.old) (B.state blocks.new)) }
@@ -63,7 +71,7 @@ pub fn prepare<B: Blocks>(
         change: *change,
     };
     let mut work = Work::new(alloc);
-    match prepare_tree(alloc, blocks, &plan, &mut work) {
+    match prepare_distinct(alloc, blocks, &plan, &mut work) {
         Ok(root) => Ok(Prepared {
             node: *node,
             change: *change,
@@ -74,6 +82,21 @@ pub fn prepare<B: Blocks>(
             work.give_back(blocks);
             Err(stop)
         }
+    }
+}
+
+// Prepares the whole node, and makes sure that no block is named twice in the work: only bytes that aren't told do that.
+fn prepare_distinct<B: Blocks>(
+    alloc: Global,
+    blocks: &mut B,
+    plan: &Plan,
+    work: &mut Work,
+) -> Result<Root, Stop> {
+    let root = prepare_tree(alloc, blocks, plan, work)?;
+    if work.is_distinct(alloc)? {
+        Ok(root)
+    } else {
+        Err(Stop::NoMemory)
     }
 }
 
@@ -126,6 +149,7 @@ fn prepare_at<B: Blocks>(
     ensures changed { IfOk result (λ below. IsTrue (B.state blocks.new).tells → below.changed ≡ (part_of (alteration_in plan.now (B.state blocks.old)) level index).changed) }
     ensures present { IfOk result (λ below. IsTrue (B.state blocks.new).tells → below.present ≡ (part_of (alteration_in plan.now (B.state blocks.old)) level index).present) }
 
+    ensures reaches { IfOk result (λ below. ReachesOnto (B.state blocks.old) (B.state blocks.new) work.old work.new plan.now (one_block level index) (λ _. below.pointer)) }
     ensures consistent { IsConsistent (B.state blocks.old) }
     ensures err { OnErr result (Adds (B.state blocks.old) (B.state blocks.new) work.old work.new) }
     ensures aside { B.Blocks.aside blocks.new ≡ B.Blocks.aside blocks.old }

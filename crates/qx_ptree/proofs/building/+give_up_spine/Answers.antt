@@ -103,8 +103,7 @@ give_up_spine-requires g t c κs within =
     let long : length c.pointers_below.new.into ≡ c.size-words.result / 4 = search rules in
     let words : c.size-words.result / 4 ≡ per_block m.holdings.size = ap (λ n. n / 4) c.size-words.ensures.size in
     let bounds : (128 ≤ per_block m.holdings.size) × (per_block m.holdings.size ≤ 1024) = words_bounds m.holdings.size c.size-words.ensures.consistent.size in
-    let at : 0 * per_block m.holdings.size + 0 ≡ 0 = omega arith in
-    (
+    let at : 0 * per_block m.holdings.size + 0 ≡ 0 = omega arith in (
       omega (arith, c.decreases),
       (
         within,

@@ -51,24 +51,29 @@ give_up_below-give_up_each-requires g t c κs within =
     let bounds : (128 ≤ per_block m.holdings.size) × (per_block m.holdings.size ≤ 1024) = words_bounds m.holdings.size c.size-words.ensures.consistent.size in
     let long : length c.pointers_below.new.into ≡ c.size-words.result / 4 = search rules in
     let last : InReach m.holdings.size (c.args.level - 1) (c.args.index * (c.size-words.result / 4) + (c.size-words.result / 4 - 1)) =
-    child-reach m.holdings.size c.args.level c.args.index (c.size-words.result / 4) (c.size-words.result / 4 - 1) (omega (arith, c.if-level-eq0.false)) c.requires.reach words (omega arith) in
-    (
+    child-reach m.holdings.size c.args.level c.args.index (c.size-words.result / 4) (c.size-words.result / 4 - 1) (omega (arith, c.if-level-eq0.false)) c.requires.reach words (omega arith) in (
       omega (arith, c.decreases),
       (
         within,
         (
           of_part (λ xs. 0 < length xs → InReach n.holdings.size (c.args.level - 1) (c.args.index * (c.size-words.result / 4) + length xs - 1)) (c.size-words.result / 4) c.pointers_below.new.into _ long
-          (λ some. kept_reach m n (c.args.level - 1) _ keeps (subst (λ k. InReach m.holdings.size (c.args.level - 1) k) (omega (arith, long)) last)),
+              (λ some. kept_reach m n (c.args.level - 1) _ keeps (subst (λ k. InReach m.holdings.size (c.args.level - 1) k) (omega (arith, long)) last)),
           (
             child_within c.args.level c.args.index (c.size-words.result / 4) c.args.plan.now.node.levels (omega arith) c.requires.within,
-            (kept_consistent m n keeps c.size-words.ensures.consistent, (c.requires.long, (
-              kept_plan m n c.args.plan.now keeps c.requires.plan,
-              λ told. of_part (λ xs. (w : ℕ) → w < length xs → slice_index xs w ≡ planned_pointer c.args.plan.now n (c.args.level - 1) (c.args.index * (c.size-words.result / 4) + w)) (c.size-words.result / 4) c.pointers_below.new.into _ long
-                  (λ w low.
-                  c.in_ok-pointers_below.ensures.pointers told w (search rules)
-                  ∙ ap (λ k. planned_pointer c.args.plan.now m (c.args.level - 1) (c.args.index * k + w)) (sym words)
-                  ∙ sym (kept_pointer m n c.args.plan.now (c.args.level - 1) (c.args.index * (c.size-words.result / 4) + w) keeps told)),
-            ))),
+            (
+              kept_consistent m n keeps c.size-words.ensures.consistent,
+              (
+                c.requires.long,
+                (
+                  kept_plan m n c.args.plan.now keeps c.requires.plan,
+                  λ told. of_part (λ xs. (w : ℕ) → w < length xs → slice_index xs w ≡ planned_pointer c.args.plan.now n (c.args.level - 1) (c.args.index * (c.size-words.result / 4) + w)) (c.size-words.result / 4) c.pointers_below.new.into _ long
+                      (λ w low.
+                      c.in_ok-pointers_below.ensures.pointers told w (search rules)
+                      ∙ ap (λ k. planned_pointer c.args.plan.now m (c.args.level - 1) (c.args.index * k + w)) (sym words)
+                      ∙ sym (kept_pointer m n c.args.plan.now (c.args.level - 1) (c.args.index * (c.size-words.result / 4) + w) keeps told)),
+                ),
+              ),
+            ),
           ),
         ),
       ),
@@ -105,8 +110,7 @@ pub give_up_each-give_up_below-requires : goal.give_up_each-give_up_below-requir
 give_up_each-give_up_below-requires g t c κs within =
     let m : BlockState = g.B.Blocks.state c.args.blocks.now in
     let n : BlockState = g.B.Blocks.state c.loop-w.blocks in
-    let keeps : Keeps m n = c.loop-w.invariant.keeps in
-    (
+    let keeps : Keeps m n = c.loop-w.invariant.keeps in (
       omega (arith, c.decreases),
       (
         within,
