@@ -1,6 +1,6 @@
 -- What was prepared above written leaves: a pointer block above those that its words lead to.
-use Rattle.std.proofs.Common.{◌≡◌, ◌≢◌, ℕ, zero, suc, ◌+◌, ◌*◌, ◌-◌, ◌^◌, ◌/◌, ◌%◌, ◌<◌, ◌≤◌, ◌⊎◌, inl, inr, List, [], ◌∷◌, ◌++◌, All, drop, length, refl, sym, ◌∙◌, ap, subst, arith}
-use Rattle.std.specs.Prelude.{Bool, true, false, ◌==◌, if◌then◌else◌, slice_index, slice_range, IsTrue, Contains}
+use Rattle.std.proofs.Common.{◌≡◌, ◌≢◌, ℕ, zero, suc, ◌+◌, ◌*◌, ◌-◌, ◌^◌, ◌/◌, ◌%◌, ◌<◌, ◌≤◌, inl, inr, List, [], ◌∷◌, length, refl, sym, ◌∙◌, ap, subst, arith}
+use Rattle.std.specs.Prelude.{Bool, true, ◌==◌, if◌then◌else◌, slice_index, slice_range, IsTrue, Contains}
 use Rattle.std.proofs.Math.Nat.{div-div-eq-div-mul, mul_comm, pow-suc}
 use Rattle.std.proofs.lemmas.Bool.{cases_lt, ne_eqb}
 use Rattle.std.proofs.lemmas.List.{take_all}
@@ -11,13 +11,13 @@ use Rattle.qx_fields.proofs.Fields.{fields_spelled, length_all_digits}
 use Rattle.qx_fields.specs.declared.order.Order.{Order}
 use Rattle.qx_fields.specs.Number.{all_digits, field, fields}
 use Rattle.qx_geom.proofs.Members.{Contains-cases, in_head}
-use Rattle.qx_geom.specs.Lists.{Distinct, is_in}
+use Rattle.qx_geom.specs.Lists.{is_in}
 use Rattle.qx_geom.specs.Pointer.{absent, per_block}
 use Rattle.qx_nodes.proofs.LeafPaths.{by_one}
 use Rattle.qx_nodes.specs.BlockMap.{BlockMap, with_bytes, word}
 use Rattle.qx_blocks.specs.BlockState.{BlockState, IsConsistent}
 use Rattle.qx_ptree.specs.declared.fresh_blocks.Plan.{Plan}
-use Rattle.qx_ptree.specs.Building.{BlockWork, never, lost, same, edited, taken, moved, LiesUnder, Row, new_pointer, one_block, pointer_bytes, pointer_down}
+use Rattle.qx_ptree.specs.Building.{BlockWork, never, lost, same, edited, taken, moved, Row, new_pointer, one_block, pointer_bytes, pointer_down}
 use Rattle.qx_ptree.specs.Reaching.{HasEdits, IsOwnPosition, Owns, Reaches, ShowsOwn, own_blocks}
 use Rattle.qx_ptree.specs.Takings.{Takes}
 use Rattle.qx_ptree.specs.Trees.{block_map}

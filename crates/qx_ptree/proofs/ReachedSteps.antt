@@ -1,15 +1,12 @@
 -- What reaches written leaves by the steps of a preparation.
-use Rattle.std.proofs.Common.{◌≡◌, ◌≢◌, ℕ, zero, suc, ◌+◌, ◌*◌, ◌-◌, ◌^◌, ◌/◌, ◌<◌, ◌≤◌, inl, inr, List, [], ◌∷◌, ◌++◌, length, set, refl, sym, ◌∙◌, ap, subst, arith}
-use Rattle.std.specs.Prelude.{Bool, true, false, ◌||◌, if◌then◌else◌, slice_index, IsTrue, Result}
+use Rattle.std.proofs.Common.{◌≡◌, ℕ, suc, ◌+◌, ◌*◌, ◌-◌, ◌^◌, ◌/◌, ◌<◌, ◌≤◌, inl, inr, List, [], ◌∷◌, ◌++◌, length, set, refl, sym, ◌∙◌, ap, subst, arith}
+use Rattle.std.specs.Prelude.{Bool, true, ◌||◌, if◌then◌else◌, slice_index, Result}
 use Rattle.std.proofs.Math.Nat.{div-lt_iff_lt-mul, div-mul-le_self, one-le-pow}
-use Rattle.std.proofs.lemmas.Bool.{cases_lt}
 use Rattle.std.proofs.lemmas.List.{append-nil}
-use Rattle.qx_fields.specs.declared.order.Order.{Order}
 use Rattle.qx_geom.proofs.LeastLevels.{levels_for-reach}
-use Rattle.qx_geom.specs.declared.root.Root.{Root}
 use Rattle.qx_geom.specs.Layout.{levels_for}
 use Rattle.qx_geom.specs.Lists.{Distinct, is_in}
-use Rattle.qx_geom.specs.Pointer.{absent, per_block, reach}
+use Rattle.qx_geom.specs.Pointer.{per_block, reach}
 use Rattle.qx_geom.specs.Positions.{index_above}
 use Rattle.qx_nodes.proofs.LeafPaths.{by_one}
 use Rattle.qx_blocks.specs.BlockState.{BlockState, IsConsistent}
@@ -20,16 +17,15 @@ use Rattle.qx_ptree.specs.declared.change.Fate.TheVariants.{Stays, Written, Goes
 use Rattle.qx_ptree.specs.declared.fresh_blocks.Plan.{Plan}
 use Rattle.qx_ptree.specs.Building.{GivesUp, LiesUnder, Row, WritesBlock, WritesLeaf, one_block, with_released}
 use Rattle.qx_ptree.specs.Fates.{IsChange, fate_of, is_gone, is_written, leaves_after}
-use Rattle.qx_ptree.specs.Plans.{IsPlan}
 use Rattle.qx_ptree.specs.Reaching.{IsMarked, IsOwnPosition, Reaches, ReachesOnto}
 use Rattle.qx_ptree.specs.ReadyLeaves.{IsAbove, IsReadyApart, IsWrittenBy, OwnAsLeft}
 use Rattle.qx_ptree.specs.Takings.{Adds, Takes}
-use Rattle.qx_ptree.specs.WorkState.{Preparation, WorkState, all_blocks, and_then, committed, no_work}
+use Rattle.qx_ptree.specs.WorkState.{Preparation, WorkState, all_blocks, committed, no_work}
 use Rattle.qx_ptree.proofs.AddedWork.{CanEdit-none, adds_lost, adds_none, adds_then, nothing_in}
 use Rattle.qx_ptree.proofs.ListedBlocks.{either_right}
 use Rattle.qx_ptree.proofs.OwnPositions.{above-up}
 use Rattle.qx_ptree.proofs.ReachedBlocks.{reaches_block_at, taken_there}
-use Rattle.qx_ptree.proofs.ReachedRows.{fresh_stay, own_leaf, reaches_later, reaches_leaf, reaches_more, reaches_next, reaches_next_top, reaches_no_work, reaches_nothing, reaches_sized}
+use Rattle.qx_ptree.proofs.ReachedRows.{fresh_stay, own_leaf, reaches_later, reaches_leaf, reaches_next, reaches_next_top, reaches_no_work, reaches_nothing, reaches_sized}
 use Rattle.qx_ptree.proofs.ReadyNodes.{ready_node}
 use Rattle.qx_ptree.proofs.UnderRows.{none_under, row_more, row_own}
 use Rattle.qx_ptree.proofs.WholeNeed.{leaves-reached}
