@@ -89,9 +89,10 @@ head_below x xs up (suc k) h =
 -- so its numbers differ
 rising_distinct : (xs : List ℕ) → ((k : ℕ) → k + 1 < length xs → get_or xs k 0 < get_or xs (k + 1) 0) → Distinct xs
 rising_distinct [] up = tt
-rising_distinct (x ∷ xs) up =
-    (λ c. let above : x < get_or xs c.0 0 = head_below x xs up c.0 c.1 in let same : get_or xs c.0 0 ≡ x = get_or_default xs c.0 0 x c.1 ∙ c.2 in omega (arith, above, same),
-    rising_distinct xs (λ k h. let next : suc k + 1 ≡ suc (k + 1) = omega arith in subst (λ j. get_or xs k 0 < get_or (x ∷ xs) j 0) next (up (suc k) (omega arith))))
+rising_distinct (x ∷ xs) up = (
+  λ c. let above : x < get_or xs c.0 0 = head_below x xs up c.0 c.1 in let same : get_or xs c.0 0 ≡ x = get_or_default xs c.0 0 x c.1 ∙ c.2 in omega (arith, above, same),
+  rising_distinct xs (λ k h. let next : suc k + 1 ≡ suc (k + 1) = omega arith in subst (λ j. get_or xs k 0 < get_or (x ∷ xs) j 0) next (up (suc k) (omega arith))),
+)
 
 -- a list in order is without doubles where no number is followed by itself
 pub sorted_distinct : (xs : List ℕ) → IsSorted nat_cmp xs → HasNoTwins xs → Distinct xs
@@ -107,9 +108,10 @@ distinct_apart (x ∷ xs) d (suc k) h same =
 
 -- so numbers are without doubles where none is followed by itself once they are in order
 pub twins_tell : (all xs sorted : List ℕ) (r : Bool) → xs ≡ all → IsPermutation xs sorted → IsSorted nat_cmp sorted → (r ≡ true ↔ HasNoTwins sorted) → (r ≡ true ↔ Distinct all)
-twins_tell all xs sorted r is p up tells =
-    (λ e. subst Distinct is (distinct_permuted sorted xs (IsPermutation-sym xs sorted p) (sorted_distinct sorted up (tells.0 e))),
-    λ d. tells.1 (distinct_apart sorted (distinct_permuted xs sorted p (subst Distinct (sym is) d))))
+twins_tell all xs sorted r is p up tells = (
+  λ e. subst Distinct is (distinct_permuted sorted xs (IsPermutation-sym xs sorted p) (sorted_distinct sorted up (tells.0 e))),
+  λ d. tells.1 (distinct_apart sorted (distinct_permuted xs sorted p (subst Distinct (sym is) d))),
+)
 
 -- ---- parts of lists
 

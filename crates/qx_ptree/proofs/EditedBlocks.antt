@@ -30,8 +30,8 @@ pub edits_give : (m : BlockState) (es : List EditState) (e : EditState) → Cont
 edits_give m [] e c all = absurd (omega (arith, c.1))
 edits_give m (f ∷ es) e c all = elim (Contains-cases f e es c) [
   | inl is ↦ edits_keep (with_bytes m f.block f.bytes) es e.block e.bytes
-    (let same : e.block ≡ f.block = ap (λ (g : EditState). g.block) (sym is) in
+      (let same : e.block ≡ f.block = ap (λ (g : EditState). g.block) (sym is) in
       ap (λ t. if t then f.bytes else m.bytes e.block) (eq-eqb e.block f.block same) ∙ ap (λ (g : EditState). g.bytes) is)
-    (λ g h. all g (Contains-cons f g es h))
+      (λ g h. all g (Contains-cons f g es h))
   | inr rest ↦ edits_give (with_bytes m f.block f.bytes) es e rest (λ g h. all g (Contains-cons f g es h))
 ]

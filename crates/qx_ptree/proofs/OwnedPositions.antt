@@ -117,11 +117,11 @@ module _ (a b : WorkState) where
       | inl x ↦ elim (split h i v) [
         | inl y ↦ p.apart bytes (shows_first n bytes s) (distinct_first a.fresh b.fresh a.kept b.kept d) k j h i x y (sym (at_first bytes s k j u x) ∙ same ∙ at_first bytes s h i v y)
         | inr y ↦ absurd (own_apart (first bytes k j) d (p.own bytes (shows_first n bytes s) k j x)
-          (subst (λ z. is_in (own_blocks b) z ≡ true) (sym (at_second bytes s h i v y) ∙ sym same ∙ at_first bytes s k j u x) (q.own bytes (shows_second n bytes s) h i y)))
+            (subst (λ z. is_in (own_blocks b) z ≡ true) (sym (at_second bytes s h i v y) ∙ sym same ∙ at_first bytes s k j u x) (q.own bytes (shows_second n bytes s) h i y)))
       ]
       | inr x ↦ elim (split h i v) [
         | inl y ↦ absurd (own_apart (first bytes h i) d (p.own bytes (shows_first n bytes s) h i y)
-          (subst (λ z. is_in (own_blocks b) z ≡ true) (sym (at_second bytes s k j u x) ∙ same ∙ at_first bytes s h i v y) (q.own bytes (shows_second n bytes s) k j x)))
+            (subst (λ z. is_in (own_blocks b) z ≡ true) (sym (at_second bytes s k j u x) ∙ same ∙ at_first bytes s h i v y) (q.own bytes (shows_second n bytes s) k j x)))
         | inr y ↦ q.apart bytes (shows_second n bytes s) (distinct_second a.fresh b.fresh a.kept b.kept d) k j h i x y (sym (at_second bytes s k j u x) ∙ same ∙ at_second bytes s h i v y)
       ]
     ];

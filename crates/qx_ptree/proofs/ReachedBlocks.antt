@@ -117,9 +117,9 @@ module _ (m n o : BlockState) (plan : Plan) (l index p q : ℕ) (pointers : List
   owns_block work blocks met = record {
     own = λ bytes s k j u. let b : (changed ≡ true) × (present ≡ true) = met k j u.at in (shown_block plan.order n o p q pointers changed present v bytes work blocks b.0 b.1 s).own;
     apart = λ bytes s d k j h i x y e.
-    let a : (k ≡ suc l) × (j ≡ index) = under_own (per_block m.holdings.size) (suc l) index k j x.at.under (omega (arith, x.level)) in
-    let b : (h ≡ suc l) × (i ≡ index) = under_own (per_block m.holdings.size) (suc l) index h i y.at.under (omega (arith, y.level)) in
-    (a.0 ∙ sym b.0, a.1 ∙ sym b.1);
+        let a : (k ≡ suc l) × (j ≡ index) = under_own (per_block m.holdings.size) (suc l) index k j x.at.under (omega (arith, x.level)) in
+        let b : (h ≡ suc l) × (i ≡ index) = under_own (per_block m.holdings.size) (suc l) index h i y.at.under (omega (arith, y.level)) in
+        (a.0 ∙ sym b.0, a.1 ∙ sym b.1);
     edits = block_edits plan.order n o p q pointers changed present v work;
   }
 

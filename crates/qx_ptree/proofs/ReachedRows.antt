@@ -90,7 +90,7 @@ reaches_more m n plan a b level first count before last tops same end p q =
     (λ k j u. elim (row_more P level first count k j u.under) [ inl x ↦ inl (record { under = x; above = u.above }) | inr y ↦ inr (record { under = y; above = u.above }) ])
     (λ bytes s k j u x. ap (λ t. pointer_down (with_bytes (block_map plan.order m) bytes) (level - k) t j) (same (j / P ^ (level - k)) x.under.from x.under.to))
     (λ bytes s k j u x. let is : j / P ^ (level - k) ≡ first + count = under_index P level (first + count) k j x.under in
-      ap (λ t. pointer_down (with_bytes (block_map plan.order m) bytes) (level - k) t j) (ap tops is ∙ end ∙ sym (ap last is)))
+    ap (λ t. pointer_down (with_bytes (block_map plan.order m) bytes) (level - k) t j) (ap tops is ∙ end ∙ sym (ap last is)))
     p q
 
 -- whose pointer is put behind those before
@@ -129,8 +129,8 @@ reaches_leaf m n o plan index p b work w =
     record {
       own = λ bytes s k j u. let level : 0 - k ≡ 0 = omega arith in subst (λ x. is_in (own_blocks work) x ≡ true) (sym (ap (λ d. pointer_down (with_bytes (block_map plan.order m) bytes) d b j) level)) own.0;
       apart = λ bytes s d k j h i u v same.
-      let x : (k ≡ 0) × (j ≡ index) = under_own P 0 index k j u.under (omega arith) in
-      let y : (h ≡ 0) × (i ≡ index) = under_own P 0 index h i v.under (omega arith) in
-      (x.0 ∙ sym y.0, x.1 ∙ sym y.1);
+          let x : (k ≡ 0) × (j ≡ index) = under_own P 0 index k j u.under (omega arith) in
+          let y : (h ≡ 0) × (i ≡ index) = under_own P 0 index h i v.under (omega arith) in
+          (x.0 ∙ sym y.0, x.1 ∙ sym y.1);
       edits = no_edits work own.1;
     }

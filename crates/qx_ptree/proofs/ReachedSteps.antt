@@ -103,8 +103,8 @@ pub onto_more : (m n o : BlockState) (a b c : WorkState) (plan : Plan) (level fi
 onto_more m n o a b c plan level first w p pointers low r s = record {
   adds = adds_then m n o a b c r.adds s.adds;
   reaches = reaches_next m o plan r.adds.added s.adds.added level first w p pointers low
-  (reaches_later m n o plan r.adds.added (record { level = level; first = first; count = w }) (λ x. slice_index pointers (x - first)) (fresh_stay r.adds.added.fresh s.adds.added.fresh m n o r.adds.takes s.adds.takes) r.reaches)
-  (reaches_sized m n o plan s.adds.added (one_block level (first + w)) (λ x. p) r.adds.takes.size r.adds.takes.count s.reaches);
+      (reaches_later m n o plan r.adds.added (record { level = level; first = first; count = w }) (λ x. slice_index pointers (x - first)) (fresh_stay r.adds.added.fresh s.adds.added.fresh m n o r.adds.takes s.adds.takes) r.reaches)
+      (reaches_sized m n o plan s.adds.added (one_block level (first + w)) (λ x. p) r.adds.takes.size r.adds.takes.count s.reaches);
 }
 
 -- of the node's own pointers
@@ -114,8 +114,8 @@ pub onto_more_top : (m n o : BlockState) (a b c : WorkState) (plan : Plan) (leve
 onto_more_top m n o a b c plan level w p pointers low r s = record {
   adds = adds_then m n o a b c r.adds s.adds;
   reaches = reaches_next_top m o plan r.adds.added s.adds.added level w p pointers low
-  (reaches_later m n o plan r.adds.added (record { level = level; first = 0; count = w }) (slice_index pointers) (fresh_stay r.adds.added.fresh s.adds.added.fresh m n o r.adds.takes s.adds.takes) r.reaches)
-  (reaches_sized m n o plan s.adds.added (one_block level w) (λ x. p) r.adds.takes.size r.adds.takes.count s.reaches);
+      (reaches_later m n o plan r.adds.added (record { level = level; first = 0; count = w }) (slice_index pointers) (fresh_stay r.adds.added.fresh s.adds.added.fresh m n o r.adds.takes s.adds.takes) r.reaches)
+      (reaches_sized m n o plan s.adds.added (one_block level w) (λ x. p) r.adds.takes.size r.adds.takes.count s.reaches);
 }
 
 -- the block above a row
@@ -127,7 +127,7 @@ pub onto_block : (m n o : BlockState) (a b c : WorkState) (plan : Plan) (level i
 onto_block m n o a b c plan level index p q pointers changed present tops above pos s met long small leads r w = record {
   adds = adds_then m n o a b c r.adds w.adds;
   reaches = reaches_block_at m n o plan level index p q pointers changed present tops r.adds.added w.adds.added above pos w.work (taken_there w.adds.added.fresh n o s w.adds.takes) met.marked long small leads
-  (fresh_stay r.adds.added.fresh w.adds.added.fresh m n o r.adds.takes w.adds.takes) r.reaches;
+      (fresh_stay r.adds.added.fresh w.adds.added.fresh m n o r.adds.takes w.adds.takes) r.reaches;
 }
 
 -- ---- what changed and is present
@@ -166,14 +166,14 @@ pub marked_block : (m : BlockState) (plan : Plan) (level index : ℕ) (changed p
     → IsMarked m plan (record { level = level - 1; first = index * per_block m.holdings.size; count = per_block m.holdings.size }) changed present → IsMarked m plan (one_block level index) changed present
 marked_block m plan level index changed present above pos a = record {
   marked = λ k j u.
-  let P : ℕ = per_block m.holdings.size in
-  let row : Row = record { level = level - 1; first = index * P; count = P } in
-  let l : (i : ℕ) × (is_written plan.change i ≡ true) × (index_above m.holdings.size level i ≡ index) = own_leaf m plan level index k j u in
-  let next : suc (level - 1) ≡ level = omega (arith, above) in
-  let up : index_above m.holdings.size (level - 1) l.0 / P ≡ index = above-up m.holdings.size (level - 1) l.0 ∙ ap (λ x. index_above m.holdings.size x l.0) next ∙ l.2 in
-  let b : (index * P ≤ index_above m.holdings.size (level - 1) l.0) × (index_above m.holdings.size (level - 1) l.0 < (index + 1) * P) = below_block (index_above m.holdings.size (level - 1) l.0) P index pos up in
-  a.marked (level - 1) (index_above m.holdings.size (level - 1) l.0)
-  (record { under = row_own P row (index_above m.holdings.size (level - 1) l.0) b.0 (omega (arith, b.1)); above = record { leaf = l.0; one = l.1; above = refl } });
+      let P : ℕ = per_block m.holdings.size in
+      let row : Row = record { level = level - 1; first = index * P; count = P } in
+      let l : (i : ℕ) × (is_written plan.change i ≡ true) × (index_above m.holdings.size level i ≡ index) = own_leaf m plan level index k j u in
+      let next : suc (level - 1) ≡ level = omega (arith, above) in
+      let up : index_above m.holdings.size (level - 1) l.0 / P ≡ index = above-up m.holdings.size (level - 1) l.0 ∙ ap (λ x. index_above m.holdings.size x l.0) next ∙ l.2 in
+      let b : (index * P ≤ index_above m.holdings.size (level - 1) l.0) × (index_above m.holdings.size (level - 1) l.0 < (index + 1) * P) = below_block (index_above m.holdings.size (level - 1) l.0) P index pos up in
+      a.marked (level - 1) (index_above m.holdings.size (level - 1) l.0)
+      (record { under = row_own P row (index_above m.holdings.size (level - 1) l.0) b.0 (omega (arith, b.1)); above = record { leaf = l.0; one = l.1; above = refl } });
 }
 
 -- ---- the whole

@@ -98,12 +98,12 @@ module _ (m n now : BlockState) (plan : Plan) (p : Preparation) (r : IsReached m
   shows : ShowsOwn n p.work (committed now p).bytes
   shows = record {
     fresh = λ b h.
-    let own : is_in (own_blocks p.work) b ≡ true = in_left p.work.fresh p.work.kept b h in
-    let edited : LeavesOthers p.work.kept now (with_edits now p.work.edits) = LeavesOthers-with_edits p.work.kept now p.work.edits r.reaches.edits.kept in
-    others.bytes b (own_stays p.work b r.distinct own) ∙ edited.bytes b (distinct_apart_lists p.work.fresh p.work.kept b (own_distinct p.work r.distinct) h) ∙ (left.own b (own_all p.work b own)).bytes;
+        let own : is_in (own_blocks p.work) b ≡ true = in_left p.work.fresh p.work.kept b h in
+        let edited : LeavesOthers p.work.kept now (with_edits now p.work.edits) = LeavesOthers-with_edits p.work.kept now p.work.edits r.reaches.edits.kept in
+        others.bytes b (own_stays p.work b r.distinct own) ∙ edited.bytes b (distinct_apart_lists p.work.fresh p.work.kept b (own_distinct p.work r.distinct) h) ∙ (left.own b (own_all p.work b own)).bytes;
     edits = λ e c.
-    others.bytes e.block (own_stays p.work e.block r.distinct (in_right p.work.fresh p.work.kept e.block (r.reaches.edits.kept e c)))
-    ∙ edits_give now p.work.edits e c (λ f g is. ap (λ (x : EditState). x.bytes) (r.reaches.edits.once (own_distinct p.work r.distinct) f e g c is));
+        others.bytes e.block (own_stays p.work e.block r.distinct (in_right p.work.fresh p.work.kept e.block (r.reaches.edits.kept e c)))
+        ∙ edits_give now p.work.edits e c (λ f g is. ap (λ (x : EditState). x.bytes) (r.reaches.edits.once (own_distinct p.work r.distinct) f e g c is));
   }
 
   -- a position at a written leaf or above one lies below the node's pointers
@@ -134,10 +134,10 @@ module _ (m n now : BlockState) (plan : Plan) (p : Preparation) (r : IsReached m
   pub ready_node : IsReadyApart plan.order (committed now p) p.root (IsWrittenBy p.change)
   ready_node = record {
     ready = λ k j h a.
-    let u : IsOwnPosition m plan row k j = own_position k j h a in
-    subst (λ x. IsTrue ((committed now p).holdings.ready x)) (sym (own_pointer k j u)) (stays_ready (new_pointer m plan row (slice_index p.root.pointers) (committed now p).bytes k j) (r.reaches.own (committed now p).bytes shows k j u));
+        let u : IsOwnPosition m plan row k j = own_position k j h a in
+        subst (λ x. IsTrue ((committed now p).holdings.ready x)) (sym (own_pointer k j u)) (stays_ready (new_pointer m plan row (slice_index p.root.pointers) (committed now p).bytes k j) (r.reaches.own (committed now p).bytes shows k j u));
     apart = λ k j h i low high a b same.
-    let u : IsOwnPosition m plan row k j = own_position k j low a in
-    let v : IsOwnPosition m plan row h i = own_position h i high b in
-    r.reaches.apart (committed now p).bytes shows (own_distinct p.work r.distinct) k j h i u v (sym (own_pointer k j u) ∙ same ∙ own_pointer h i v);
+        let u : IsOwnPosition m plan row k j = own_position k j low a in
+        let v : IsOwnPosition m plan row h i = own_position h i high b in
+        r.reaches.apart (committed now p).bytes shows (own_distinct p.work r.distinct) k j h i u v (sym (own_pointer k j u) ∙ same ∙ own_pointer h i v);
   }
