@@ -26,7 +26,7 @@ use Rattle.qx_ptree.proofs.ListedBlocks.{either_right}
 use Rattle.qx_ptree.proofs.OwnPositions.{above-up}
 use Rattle.qx_ptree.proofs.ReachedBlocks.{block_there, reaches_block_at, taken_there}
 use Rattle.qx_ptree.proofs.ReachedRows.{fresh_stay, own_leaf, reaches_later, reaches_leaf, reaches_next, reaches_next_top, reaches_no_work, reaches_nothing, reaches_sized}
-use Rattle.qx_ptree.proofs.ReadyNodes.{ready_node}
+use Rattle.qx_ptree.proofs.ReadyNodes.{IsReached, ready_node}
 use Rattle.qx_ptree.proofs.UnderRows.{none_under, row_more, row_own}
 use Rattle.qx_ptree.proofs.WholeNeed.{leaves-reached}
 
@@ -188,17 +188,17 @@ marked_block m plan level index changed present above pos a = record {
 
 -- ---- the whole
 
--- a prepared change whose blocks are all different leaves its written leaves ready once it is committed
-pub ready_prepared : (m n now : BlockState) (plan : Plan) (p : Preparation) → 0 < m.holdings.size → 0 < per_block m.holdings.size → IsChange m.holdings.size plan.change → p.change ≡ plan.change → length p.root.pointers ≡ 16
+-- a prepared change whose blocks are all different reaches its written leaves
+pub reached_prepared : (m n : BlockState) (plan : Plan) (p : Preparation) → 0 < m.holdings.size → 0 < per_block m.holdings.size → IsChange m.holdings.size plan.change → p.change ≡ plan.change → length p.root.pointers ≡ 16
     → p.root.levels ≡ levels_for m.holdings.size (leaves_after m.holdings.size plan.change) → Distinct (all_blocks p.work)
-    → ReachesOnto m n no_work p.work plan (record { level = p.root.levels; first = 0; count = 16 }) (slice_index p.root.pointers) → OwnAsLeft p n now → IsReadyApart plan.order (committed now p) p.root (IsWrittenBy p.change)
-ready_prepared m n now plan p some pos change changes long levels distinct r left =
+    → ReachesOnto m n no_work p.work plan (record { level = p.root.levels; first = 0; count = 16 }) (slice_index p.root.pointers) → IsReached m n plan p
+reached_prepared m n plan p some pos change changes long levels distinct r =
     let size : ℕ = m.holdings.size in
     let leaves : ℕ = leaves_after size plan.change in
     let same : p.work ≡ r.adds.added = r.adds.is in
     let far : leaves ≤ reach size (levels_for size leaves) = levels_for-reach size leaves 5 (omega arith) (leaves-reached size plan.change some change) in
     let at : reach size (levels_for size leaves) ≡ 16 * per_block size ^ p.root.levels = ap (reach size) (sym levels) in
-    ready_node m n now plan p (record {
+    record {
       change = changes;
       reaches = subst (λ (w : WorkState). Reaches m n plan w (record { level = p.root.levels; first = 0; count = 16 }) (slice_index p.root.pointers)) (sym same) r.reaches;
       distinct = distinct;
@@ -207,4 +207,10 @@ ready_prepared m n now plan p some pos change changes long levels distinct r lef
       long = long;
       words = pos;
       below = λ i e. omega (arith, change.below i e, far, at);
-    }) left
+    }
+
+-- so it leaves them ready once it is committed
+pub ready_prepared : (m n now : BlockState) (plan : Plan) (p : Preparation) → 0 < m.holdings.size → 0 < per_block m.holdings.size → IsChange m.holdings.size plan.change → p.change ≡ plan.change → length p.root.pointers ≡ 16
+    → p.root.levels ≡ levels_for m.holdings.size (leaves_after m.holdings.size plan.change) → Distinct (all_blocks p.work)
+    → ReachesOnto m n no_work p.work plan (record { level = p.root.levels; first = 0; count = 16 }) (slice_index p.root.pointers) → OwnAsLeft p n now → IsReadyApart plan.order (committed now p) p.root (IsWrittenBy p.change)
+ready_prepared m n now plan p some pos change changes long levels distinct r left = ready_node m n now plan p (reached_prepared m n plan p some pos change changes long levels distinct r) left

@@ -18,12 +18,13 @@ use Rattle.qx_ptree.specs.Reaching.{IsOwnPosition, Reaches, ShowsOwn, own_blocks
 use Rattle.qx_ptree.specs.ReadyLeaves.{IsAbove, IsReadyApart, IsWrittenBy, OwnAsLeft}
 use Rattle.qx_ptree.specs.Takings.{LeavesOthers, Takes}
 use Rattle.qx_ptree.specs.Trees.{block_map, pointer_at, pointer_from}
-use Rattle.qx_ptree.specs.WorkState.{EditState, Preparation, WorkState, all_blocks, committed, with_edits}
+use Rattle.qx_ptree.specs.WorkState.{EditState, Preparation, WorkState, all_blocks, blocks_of, committed, with_edits}
 use Rattle.qx_ptree.proofs.DistinctBlocks.{distinct_apart_lists, distinct_left}
 use Rattle.qx_ptree.proofs.EditedBlocks.{edits_give, edits_holdings}
 use Rattle.qx_ptree.proofs.ListedBlocks.{either_right}
 use Rattle.qx_ptree.proofs.OtherBlocks.{LeavesOthers-with_edits, LeavesOthers-without_all}
 use Rattle.qx_ptree.proofs.PointersByPosition.{at_from}
+use Rattle.qx_ptree.proofs.StayingLeaves.{StandIn}
 
 -- ---- the node's pointers
 
@@ -140,4 +141,12 @@ module _ (m n now : BlockState) (plan : Plan) (p : Preparation) (r : IsReached m
         let u : IsOwnPosition m plan row k j = own_position k j low a in
         let v : IsOwnPosition m plan row h i = own_position h i high b in
         r.reaches.apart (committed now p).bytes shows (own_distinct p.work r.distinct) k j h i u v (sym (own_pointer k j u) ∙ same ∙ own_pointer h i v);
+  }
+
+  -- and their blocks are those of the change
+  pub stand_node : StandIn plan.order (committed now p) p.root (IsWrittenBy p.change) (blocks_of p)
+  stand_node = record {
+    own = λ k j h a.
+        let u : IsOwnPosition m plan row k j = own_position k j h a in
+        own_all p.work (pointer_at (block_map plan.order (committed now p)) p.root k j) (subst (λ x. is_in (own_blocks p.work) x ≡ true) (sym (own_pointer k j u)) (r.reaches.own (committed now p).bytes shows k j u));
   }
