@@ -30,6 +30,7 @@ pub mod OwnedPositions
 pub mod ReachedRows
 pub mod ReachedBlocks
 pub mod EditedBlocks
+pub mod StayingLeaves
 pub mod ReadyNodes
 pub mod ReachedSteps
 pub mod LeavesByPointer

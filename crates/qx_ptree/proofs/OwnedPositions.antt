@@ -1,13 +1,12 @@
 -- Positions whose blocks are some work's own: none, more work, later states.
-use Rattle.std.proofs.Common.{◌≡◌, ℕ, ◌⊎◌, inl, inr, List, [], ◌∷◌, ◌++◌, refl, sym, ◌∙◌, ap, subst, arith}
+use Rattle.std.proofs.Common.{◌≡◌, ℕ, ◌⊎◌, inl, inr, List, [], ◌++◌, sym, ◌∙◌, subst, arith}
 use Rattle.std.specs.Prelude.{true, Contains}
 use Rattle.std.proofs.lemmas.List.Elements.{Contains-append_cases, Contains-append_left, Contains-append_right}
 use Rattle.qx_geom.proofs.Members.{in_append_cases, in_left, in_right}
 use Rattle.qx_geom.specs.Lists.{Distinct, is_in}
 use Rattle.qx_blocks.specs.BlockState.{BlockState}
-use Rattle.qx_ptree.specs.Building.{with_released}
 use Rattle.qx_ptree.specs.Reaching.{HasEdits, Owns, ShowsOwn, own_blocks}
-use Rattle.qx_ptree.specs.WorkState.{EditState, WorkState, and_then, no_work}
+use Rattle.qx_ptree.specs.WorkState.{EditState, WorkState, and_then}
 use Rattle.qx_ptree.proofs.DistinctBlocks.{distinct_between, distinct_first, distinct_second}
 
 -- ---- no positions

@@ -1,6 +1,6 @@
 -- What was prepared above written leaves: a pointer block above those that its words lead to.
-use Rattle.std.proofs.Common.{◌≡◌, ◌≢◌, ℕ, zero, suc, ◌+◌, ◌*◌, ◌-◌, ◌^◌, ◌/◌, ◌%◌, ◌<◌, ◌≤◌, ◌⊎◌, inl, inr, List, [], ◌∷◌, ◌++◌, All, drop, length, refl, sym, ◌∙◌, ap, subst, arith}
-use Rattle.std.specs.Prelude.{Bool, true, false, ◌==◌, if◌then◌else◌, slice_index, slice_range, IsTrue, Contains}
+use Rattle.std.proofs.Common.{◌≡◌, ◌≢◌, ℕ, zero, suc, ◌+◌, ◌*◌, ◌-◌, ◌^◌, ◌/◌, ◌%◌, ◌<◌, ◌≤◌, inl, inr, List, [], ◌∷◌, length, refl, sym, ◌∙◌, ap, subst, arith}
+use Rattle.std.specs.Prelude.{Bool, true, ◌==◌, if◌then◌else◌, slice_index, slice_range, IsTrue, Contains}
 use Rattle.std.proofs.Math.Nat.{div-div-eq-div-mul, mul_comm, pow-suc}
 use Rattle.std.proofs.lemmas.Bool.{cases_lt, ne_eqb}
 use Rattle.std.proofs.lemmas.List.{take_all}
@@ -11,13 +11,13 @@ use Rattle.qx_fields.proofs.Fields.{fields_spelled, length_all_digits}
 use Rattle.qx_fields.specs.declared.order.Order.{Order}
 use Rattle.qx_fields.specs.Number.{all_digits, field, fields}
 use Rattle.qx_geom.proofs.Members.{Contains-cases, in_head}
-use Rattle.qx_geom.specs.Lists.{Distinct, is_in}
+use Rattle.qx_geom.specs.Lists.{is_in}
 use Rattle.qx_geom.specs.Pointer.{absent, per_block}
 use Rattle.qx_nodes.proofs.LeafPaths.{by_one}
 use Rattle.qx_nodes.specs.BlockMap.{BlockMap, with_bytes, word}
 use Rattle.qx_blocks.specs.BlockState.{BlockState, IsConsistent}
 use Rattle.qx_ptree.specs.declared.fresh_blocks.Plan.{Plan}
-use Rattle.qx_ptree.specs.Building.{BlockWork, never, lost, same, edited, taken, moved, LiesUnder, Row, new_pointer, one_block, pointer_bytes, pointer_down}
+use Rattle.qx_ptree.specs.Building.{BlockWork, never, lost, same, edited, taken, moved, Row, new_pointer, one_block, pointer_bytes, pointer_down}
 use Rattle.qx_ptree.specs.Reaching.{HasEdits, IsOwnPosition, Owns, Reaches, ShowsOwn, own_blocks}
 use Rattle.qx_ptree.specs.Takings.{Takes}
 use Rattle.qx_ptree.specs.Trees.{block_map}
@@ -61,25 +61,35 @@ record IsShownBlock (order : Order) (work : WorkState) (pointers : List ℕ) (q 
 
 -- so is one that changed, and is present
 shown_block : (order : Order) (n o : BlockState) (p q : ℕ) (pointers : List ℕ) (changed present : Bool) (work : WorkState) (bytes : ℕ → List ℕ)
-    → BlockWork order n o p pointers changed present q work → ((b : ℕ) → is_in work.fresh b ≡ true → b ≢ absent) → changed ≡ true → present ≡ true → ShowsOwn o work bytes → IsShownBlock order work pointers q bytes
-shown_block order n o p q pointers changed present _ bytes (never none) blocks c h s = absurd (cc)
-shown_block order n o p q pointers changed present _ bytes (lost there) blocks c h s = absurd (cc)
-shown_block order n o p q pointers changed present _ bytes (same there) blocks c h s = absurd (cc)
-shown_block order n o p q pointers changed present _ bytes (edited there private) blocks c h s = record {
+    → BlockWork order n o p pointers changed present q work → (present ≡ true → q ≢ absent) → changed ≡ true → present ≡ true → ShowsOwn o work bytes → IsShownBlock order work pointers q bytes
+shown_block order n o p q pointers changed present _ bytes (never none) leads c h s = absurd (cc)
+shown_block order n o p q pointers changed present _ bytes (lost there) leads c h s = absurd (cc)
+shown_block order n o p q pointers changed present _ bytes (same there) leads c h s = absurd (cc)
+shown_block order n o p q pointers changed present _ bytes (edited there private) leads c h s = record {
   own = in_head p [];
   there = there;
   spelled = s.edits (record { block = p; bytes = pointer_bytes order pointers }) (0, omega arith, refl);
 }
-shown_block order n o p q pointers changed present _ bytes (taken none is) blocks c h s = record {
+shown_block order n o p q pointers changed present _ bytes (taken none is) leads c h s = record {
   own = in_head q [];
-  there = blocks q (in_head q []);
+  there = leads h;
   spelled = s.fresh q (in_head q []) ∙ is;
 }
-shown_block order n o p q pointers changed present _ bytes (moved there shared is) blocks c h s = record {
+shown_block order n o p q pointers changed present _ bytes (moved there shared is) leads c h s = record {
   own = in_head q [];
-  there = blocks q (in_head q []);
+  there = leads h;
   spelled = s.fresh q (in_head q []) ∙ is;
 }
+
+-- its pointer leads to a block where what was taken is there
+pub block_there : (order : Order) (n o : BlockState) (p q : ℕ) (pointers : List ℕ) (changed present : Bool) (work : WorkState)
+    → BlockWork order n o p pointers changed present q work → ((b : ℕ) → is_in work.fresh b ≡ true → b ≢ absent) → present ≡ true → q ≢ absent
+block_there order n o p q pointers changed present _ (never none) blocks h = absurd (cc)
+block_there order n o p q pointers changed present _ (lost there) blocks h = absurd (cc)
+block_there order n o p q pointers changed present _ (same there) blocks h = there
+block_there order n o p q pointers changed present _ (edited there private) blocks h = there
+block_there order n o p q pointers changed present _ (taken none is) blocks h = blocks q (in_head q [])
+block_there order n o p q pointers changed present _ (moved there shared is) blocks h = blocks q (in_head q [])
 
 -- it gets bytes once at most
 block_edits : (order : Order) (n o : BlockState) (p q : ℕ) (pointers : List ℕ) (changed present : Bool) (work : WorkState) → BlockWork order n o p pointers changed present q work → HasEdits work
@@ -112,10 +122,10 @@ module _ (m n o : BlockState) (plan : Plan) (l index p q : ℕ) (pointers : List
     level : k ≡ suc l
 
   -- the block alone
-  owns_block : BlockWork plan.order n o p pointers changed present q v → ((b : ℕ) → is_in v.fresh b ≡ true → b ≢ absent) → ((k j : ℕ) → IsOwnPosition m plan one k j → (changed ≡ true) × (present ≡ true))
+  owns_block : BlockWork plan.order n o p pointers changed present q v → (present ≡ true → q ≢ absent) → ((k j : ℕ) → IsOwnPosition m plan one k j → (changed ≡ true) × (present ≡ true))
       → Owns o v IsBlockItself (λ bytes k j. q)
-  owns_block work blocks met = record {
-    own = λ bytes s k j u. let b : (changed ≡ true) × (present ≡ true) = met k j u.at in (shown_block plan.order n o p q pointers changed present v bytes work blocks b.0 b.1 s).own;
+  owns_block work there met = record {
+    own = λ bytes s k j u. let b : (changed ≡ true) × (present ≡ true) = met k j u.at in (shown_block plan.order n o p q pointers changed present v bytes work there b.0 b.1 s).own;
     apart = λ bytes s d k j h i x y e.
         let a : (k ≡ suc l) × (j ≡ index) = under_own (per_block m.holdings.size) (suc l) index k j x.at.under (omega (arith, x.level)) in
         let b : (h ≡ suc l) × (i ≡ index) = under_own (per_block m.holdings.size) (suc l) index h i y.at.under (omega (arith, y.level)) in
@@ -138,11 +148,11 @@ module _ (m n o : BlockState) (plan : Plan) (l index p q : ℕ) (pointers : List
       ap (λ b. if b then absent else word t q (x % P)) (ne_eqb q absent shown.there) ∙ ap (word t q) at ∙ spelled_word plan.order pointers (bytes q) y shown.spelled small short ∙ leads y low ∙ ap tops whole
 
   -- the block and what stands below it
-  pub reaches_block : 0 < per_block m.holdings.size → BlockWork plan.order n o p pointers changed present q v → ((b : ℕ) → is_in v.fresh b ≡ true → b ≢ absent)
+  pub reaches_block : 0 < per_block m.holdings.size → BlockWork plan.order n o p pointers changed present q v → (present ≡ true → q ≢ absent)
       → ((k j : ℕ) → IsOwnPosition m plan one k j → (changed ≡ true) × (present ≡ true)) → length pointers ≡ per_block m.holdings.size → ((x : ℕ) → x < length pointers → slice_index pointers x < 2 ^ 32)
       → ((x : ℕ) → x < per_block m.holdings.size → slice_index pointers x ≡ tops (index * per_block m.holdings.size + x)) → ((b : ℕ) → is_in w.fresh b ≡ true → o.bytes b ≡ n.bytes b)
       → Reaches m n plan w row tops → Reaches m o plan (and_then w v) one (λ x. q)
-  reaches_block pos work blocks met long small leads stay below =
+  reaches_block pos work there met long small leads stay below =
       let P : ℕ = per_block m.holdings.size in
       owns_both w v o (IsOwnPosition m plan one) (IsOwnPosition m plan row) IsBlockItself (new_pointer m plan one (λ x. q)) (new_pointer m plan row tops) (λ bytes k j. q)
       (λ k j u. elim (cases_lt k (suc l)) [
@@ -152,23 +162,23 @@ module _ (m n o : BlockState) (plan : Plan) (l index p q : ℕ) (pointers : List
       (λ bytes s k j u x.
       let t : BlockMap = with_bytes (block_map plan.order m) bytes in
       let b : (changed ≡ true) × (present ≡ true) = met k j u in
-      let shown : IsShownBlock plan.order v pointers q bytes = shown_block plan.order n o p q pointers changed present v bytes work blocks b.0 b.1 (shows_second w v o bytes s) in
+      let shown : IsShownBlock plan.order v pointers q bytes = shown_block plan.order n o p q pointers changed present v bytes work there b.0 b.1 (shows_second w v o bytes s) in
       ap (λ d. pointer_down t d q j) (far_up l k x.under.level) ∙ down_word t (l - k) q j
       ∙ ap (λ y. pointer_down t (l - k) y j) (word_leads bytes shown long small leads (j / P ^ (l - k)) x.under.from x.under.to))
       (λ bytes s k j u x. let none : suc l - k ≡ 0 = omega (arith, x.level) in ap (λ d. pointer_down (with_bytes (block_map plan.order m) bytes) d q j) none)
-      (owns_later n o w (IsOwnPosition m plan row) (new_pointer m plan row tops) stay below) (owns_block work blocks met)
+      (owns_later n o w (IsOwnPosition m plan row) (new_pointer m plan row tops) stay below) (owns_block work there met)
 
 -- so for a level above 0
 pub reaches_block_at : (m n o : BlockState) (plan : Plan) (level index p q : ℕ) (pointers : List ℕ) (changed present : Bool) (tops : ℕ → ℕ) (w v : WorkState) → 0 < level → 0 < per_block m.holdings.size
-    → BlockWork plan.order n o p pointers changed present q v → ((b : ℕ) → is_in v.fresh b ≡ true → b ≢ absent)
+    → BlockWork plan.order n o p pointers changed present q v → (present ≡ true → q ≢ absent)
     → ((k j : ℕ) → IsOwnPosition m plan (one_block level index) k j → (changed ≡ true) × (present ≡ true)) → length pointers ≡ per_block m.holdings.size
     → ((x : ℕ) → x < length pointers → slice_index pointers x < 2 ^ 32) → ((x : ℕ) → x < per_block m.holdings.size → slice_index pointers x ≡ tops (index * per_block m.holdings.size + x))
     → ((b : ℕ) → is_in w.fresh b ≡ true → o.bytes b ≡ n.bytes b)
     → Reaches m n plan w (record { level = level - 1; first = index * per_block m.holdings.size; count = per_block m.holdings.size }) tops → Reaches m o plan (and_then w v) (one_block level index) (λ x. q)
-reaches_block_at m n o plan level index p q pointers changed present tops w v above pos work blocks met long small leads stay below =
+reaches_block_at m n o plan level index p q pointers changed present tops w v above pos work there met long small leads stay below =
     let is : suc (level - 1) ≡ level = omega (arith, above) in
     subst (λ x. Reaches m o plan (and_then w v) (one_block x index) (λ y. q)) is
-    (reaches_block m n o plan (level - 1) index p q pointers changed present tops w v pos work blocks (subst (λ x. (k j : ℕ) → IsOwnPosition m plan (one_block x index) k j → (changed ≡ true) × (present ≡ true)) (sym is) met) long small leads stay below)
+    (reaches_block m n o plan (level - 1) index p q pointers changed present tops w v pos work there (subst (λ x. (k j : ℕ) → IsOwnPosition m plan (one_block x index) k j → (changed ≡ true) × (present ≡ true)) (sym is) met) long small leads stay below)
 
 -- a block that was taken is there
 pub taken_there : (f : List ℕ) (m n : BlockState) → IsConsistent n → Takes f m n → (b : ℕ) → is_in f b ≡ true → b ≢ absent

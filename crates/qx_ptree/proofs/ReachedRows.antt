@@ -1,22 +1,22 @@
 -- What was prepared above written leaves, row by row: of none, of a leaf, of one block more, over later states.
-use Rattle.std.proofs.Common.{◌≡◌, ◌≢◌, ℕ, zero, suc, ◌+◌, ◌*◌, ◌-◌, ◌^◌, ◌/◌, ◌<◌, ◌≤◌, ◌⊎◌, inl, inr, List, [], ◌∷◌, ◌++◌, get_or, length, set, refl, sym, ◌∙◌, ap, subst, arith, get_or-set_other, get_or-set_same}
-use Rattle.std.specs.Prelude.{Bool, true, false, ◌||◌, slice_index, IsTrue}
+use Rattle.std.proofs.Common.{◌≡◌, ◌≢◌, ℕ, ◌+◌, ◌-◌, ◌^◌, ◌/◌, ◌<◌, ◌≤◌, inl, inr, List, [], ◌∷◌, length, set, refl, sym, ◌∙◌, ap, subst, arith, get_or-set_other, get_or-set_same}
+use Rattle.std.specs.Prelude.{true, slice_index}
 use Rattle.std.proofs.Math.Nat.{div-div-eq-div-mul}
 use Rattle.std.proofs.lemmas.Nat.{pow-add}
 use Rattle.qx_geom.proofs.Members.{in_head}
-use Rattle.qx_geom.specs.Lists.{Distinct, is_in}
+use Rattle.qx_geom.specs.Lists.{is_in}
 use Rattle.qx_geom.specs.Pointer.{per_block}
 use Rattle.qx_geom.specs.Positions.{index_above}
 use Rattle.qx_nodes.specs.BlockMap.{with_bytes}
 use Rattle.qx_blocks.specs.BlockState.{BlockState}
 use Rattle.qx_ptree.specs.declared.fresh_blocks.Plan.{Plan}
-use Rattle.qx_ptree.specs.Building.{LeafWork, taken, stays, moved, LiesUnder, Row, new_pointer, one_block, pointer_down, with_released, work_kept, work_moved, work_taken}
+use Rattle.qx_ptree.specs.Building.{LeafWork, taken, stays, moved, LiesUnder, Row, new_pointer, one_block, pointer_down, with_released}
 use Rattle.qx_ptree.specs.Fates.{is_written}
-use Rattle.qx_ptree.specs.Reaching.{HasEdits, IsOwnPosition, Owns, Reaches, ShowsOwn, own_blocks}
+use Rattle.qx_ptree.specs.Reaching.{IsOwnPosition, Reaches, own_blocks}
 use Rattle.qx_ptree.specs.ReadyLeaves.{IsAbove, IsWrittenBy}
 use Rattle.qx_ptree.specs.Takings.{Takes}
 use Rattle.qx_ptree.specs.Trees.{block_map}
-use Rattle.qx_ptree.specs.WorkState.{EditState, WorkState, and_then, no_work}
+use Rattle.qx_ptree.specs.WorkState.{WorkState, and_then, no_work}
 use Rattle.qx_ptree.proofs.ListedBlocks.{either_right}
 use Rattle.qx_ptree.proofs.OwnedPositions.{no_edits, owns_both, owns_fewer, owns_later, owns_none}
 use Rattle.qx_ptree.proofs.UnderRows.{none_under, row_more, under_index, under_own}

@@ -1,12 +1,9 @@
 -- What reaches written leaves by the steps of a preparation.
-use Rattle.std.proofs.Common.{◌≡◌, ◌≢◌, ℕ, zero, suc, ◌+◌, ◌*◌, ◌-◌, ◌^◌, ◌/◌, ◌<◌, ◌≤◌, inl, inr, List, [], ◌∷◌, ◌++◌, length, set, refl, sym, ◌∙◌, ap, subst, arith}
-use Rattle.std.specs.Prelude.{Bool, true, false, ◌||◌, if◌then◌else◌, slice_index, IsTrue, Result}
+use Rattle.std.proofs.Common.{◌≡◌, ◌≢◌, ℕ, suc, ◌+◌, ◌*◌, ◌-◌, ◌^◌, ◌/◌, ◌<◌, ◌≤◌, inl, inr, List, [], ◌∷◌, ◌++◌, length, set, refl, sym, ◌∙◌, ap, subst, arith}
+use Rattle.std.specs.Prelude.{Bool, true, ◌||◌, if◌then◌else◌, slice_index, Result}
 use Rattle.std.proofs.Math.Nat.{div-lt_iff_lt-mul, div-mul-le_self, one-le-pow}
-use Rattle.std.proofs.lemmas.Bool.{cases_lt}
 use Rattle.std.proofs.lemmas.List.{append-nil}
-use Rattle.qx_fields.specs.declared.order.Order.{Order}
 use Rattle.qx_geom.proofs.LeastLevels.{levels_for-reach}
-use Rattle.qx_geom.specs.declared.root.Root.{Root}
 use Rattle.qx_geom.specs.Layout.{levels_for}
 use Rattle.qx_geom.specs.Lists.{Distinct, is_in}
 use Rattle.qx_geom.specs.Pointer.{absent, per_block, reach}
@@ -20,17 +17,16 @@ use Rattle.qx_ptree.specs.declared.change.Fate.TheVariants.{Stays, Written, Goes
 use Rattle.qx_ptree.specs.declared.fresh_blocks.Plan.{Plan}
 use Rattle.qx_ptree.specs.Building.{GivesUp, LiesUnder, Row, WritesBlock, WritesLeaf, one_block, with_released}
 use Rattle.qx_ptree.specs.Fates.{IsChange, fate_of, is_gone, is_written, leaves_after}
-use Rattle.qx_ptree.specs.Plans.{IsPlan}
 use Rattle.qx_ptree.specs.Reaching.{IsMarked, IsOwnPosition, Reaches, ReachesOnto}
 use Rattle.qx_ptree.specs.ReadyLeaves.{IsAbove, IsReadyApart, IsWrittenBy, OwnAsLeft}
 use Rattle.qx_ptree.specs.Takings.{Adds, Takes}
-use Rattle.qx_ptree.specs.WorkState.{Preparation, WorkState, all_blocks, and_then, committed, no_work}
+use Rattle.qx_ptree.specs.WorkState.{Preparation, WorkState, all_blocks, committed, no_work}
 use Rattle.qx_ptree.proofs.AddedWork.{CanEdit-none, adds_lost, adds_none, adds_then, nothing_in}
 use Rattle.qx_ptree.proofs.ListedBlocks.{either_right}
 use Rattle.qx_ptree.proofs.OwnPositions.{above-up}
-use Rattle.qx_ptree.proofs.ReachedBlocks.{reaches_block_at, taken_there}
-use Rattle.qx_ptree.proofs.ReachedRows.{fresh_stay, own_leaf, reaches_later, reaches_leaf, reaches_more, reaches_next, reaches_next_top, reaches_no_work, reaches_nothing, reaches_sized}
-use Rattle.qx_ptree.proofs.ReadyNodes.{ready_node}
+use Rattle.qx_ptree.proofs.ReachedBlocks.{block_there, reaches_block_at, taken_there}
+use Rattle.qx_ptree.proofs.ReachedRows.{fresh_stay, own_leaf, reaches_later, reaches_leaf, reaches_next, reaches_next_top, reaches_no_work, reaches_nothing, reaches_sized}
+use Rattle.qx_ptree.proofs.ReadyNodes.{IsReached, ready_node}
 use Rattle.qx_ptree.proofs.UnderRows.{none_under, row_more, row_own}
 use Rattle.qx_ptree.proofs.WholeNeed.{leaves-reached}
 
@@ -122,17 +118,27 @@ onto_more_top m n o a b c plan level w p pointers low r s = record {
       (reaches_sized m n o plan s.adds.added (one_block level w) (λ x. p) r.adds.takes.size r.adds.takes.count s.reaches);
 }
 
--- the block above a row
+-- the block above a row, whose pointer leads to a block where something is present
+pub onto_block_there : (m n o : BlockState) (a b c : WorkState) (plan : Plan) (level index p q : ℕ) (pointers : List ℕ) (changed present : Bool) (tops : ℕ → ℕ) → 0 < level → 0 < per_block m.holdings.size → (present ≡ true → q ≢ absent)
+    → IsMarked m plan (one_block level index) changed present → length pointers ≡ per_block m.holdings.size → ((x : ℕ) → x < length pointers → slice_index pointers x < 2 ^ 32)
+    → ((x : ℕ) → x < per_block m.holdings.size → slice_index pointers x ≡ tops (index * per_block m.holdings.size + x))
+    → ReachesOnto m n a b plan (record { level = level - 1; first = index * per_block m.holdings.size; count = per_block m.holdings.size }) tops → WritesBlock plan.order n o b c p pointers changed present q
+    → ReachesOnto m o a c plan (one_block level index) (λ x. q)
+onto_block_there m n o a b c plan level index p q pointers changed present tops above pos there met long small leads r w = record {
+  adds = adds_then m n o a b c r.adds w.adds;
+  reaches = reaches_block_at m n o plan level index p q pointers changed present tops r.adds.added w.adds.added above pos w.work there met.marked long small leads
+      (fresh_stay r.adds.added.fresh w.adds.added.fresh m n o r.adds.takes w.adds.takes) r.reaches;
+}
+
+-- as it does over consistent blocks
 pub onto_block : (m n o : BlockState) (a b c : WorkState) (plan : Plan) (level index p q : ℕ) (pointers : List ℕ) (changed present : Bool) (tops : ℕ → ℕ) → 0 < level → 0 < per_block m.holdings.size → IsConsistent o
     → IsMarked m plan (one_block level index) changed present → length pointers ≡ per_block m.holdings.size → ((x : ℕ) → x < length pointers → slice_index pointers x < 2 ^ 32)
     → ((x : ℕ) → x < per_block m.holdings.size → slice_index pointers x ≡ tops (index * per_block m.holdings.size + x))
     → ReachesOnto m n a b plan (record { level = level - 1; first = index * per_block m.holdings.size; count = per_block m.holdings.size }) tops → WritesBlock plan.order n o b c p pointers changed present q
     → ReachesOnto m o a c plan (one_block level index) (λ x. q)
-onto_block m n o a b c plan level index p q pointers changed present tops above pos s met long small leads r w = record {
-  adds = adds_then m n o a b c r.adds w.adds;
-  reaches = reaches_block_at m n o plan level index p q pointers changed present tops r.adds.added w.adds.added above pos w.work (taken_there w.adds.added.fresh n o s w.adds.takes) met.marked long small leads
-      (fresh_stay r.adds.added.fresh w.adds.added.fresh m n o r.adds.takes w.adds.takes) r.reaches;
-}
+onto_block m n o a b c plan level index p q pointers changed present tops above pos s met long small leads r w =
+    onto_block_there m n o a b c plan level index p q pointers changed present tops above pos
+    (block_there plan.order n o p q pointers changed present w.adds.added w.work (taken_there w.adds.added.fresh n o s w.adds.takes)) met long small leads r w
 
 -- ---- what changed and is present
 
@@ -182,17 +188,17 @@ marked_block m plan level index changed present above pos a = record {
 
 -- ---- the whole
 
--- a prepared change whose blocks are all different leaves its written leaves ready once it is committed
-pub ready_prepared : (m n now : BlockState) (plan : Plan) (p : Preparation) → 0 < m.holdings.size → 0 < per_block m.holdings.size → IsChange m.holdings.size plan.change → p.change ≡ plan.change → length p.root.pointers ≡ 16
+-- a prepared change whose blocks are all different reaches its written leaves
+pub reached_prepared : (m n : BlockState) (plan : Plan) (p : Preparation) → 0 < m.holdings.size → 0 < per_block m.holdings.size → IsChange m.holdings.size plan.change → p.change ≡ plan.change → length p.root.pointers ≡ 16
     → p.root.levels ≡ levels_for m.holdings.size (leaves_after m.holdings.size plan.change) → Distinct (all_blocks p.work)
-    → ReachesOnto m n no_work p.work plan (record { level = p.root.levels; first = 0; count = 16 }) (slice_index p.root.pointers) → OwnAsLeft p n now → IsReadyApart plan.order (committed now p) p.root (IsWrittenBy p.change)
-ready_prepared m n now plan p some pos change changes long levels distinct r left =
+    → ReachesOnto m n no_work p.work plan (record { level = p.root.levels; first = 0; count = 16 }) (slice_index p.root.pointers) → IsReached m n plan p
+reached_prepared m n plan p some pos change changes long levels distinct r =
     let size : ℕ = m.holdings.size in
     let leaves : ℕ = leaves_after size plan.change in
     let same : p.work ≡ r.adds.added = r.adds.is in
     let far : leaves ≤ reach size (levels_for size leaves) = levels_for-reach size leaves 5 (omega arith) (leaves-reached size plan.change some change) in
     let at : reach size (levels_for size leaves) ≡ 16 * per_block size ^ p.root.levels = ap (reach size) (sym levels) in
-    ready_node m n now plan p (record {
+    record {
       change = changes;
       reaches = subst (λ (w : WorkState). Reaches m n plan w (record { level = p.root.levels; first = 0; count = 16 }) (slice_index p.root.pointers)) (sym same) r.reaches;
       distinct = distinct;
@@ -201,4 +207,10 @@ ready_prepared m n now plan p some pos change changes long levels distinct r lef
       long = long;
       words = pos;
       below = λ i e. omega (arith, change.below i e, far, at);
-    }) left
+    }
+
+-- so it leaves them ready once it is committed
+pub ready_prepared : (m n now : BlockState) (plan : Plan) (p : Preparation) → 0 < m.holdings.size → 0 < per_block m.holdings.size → IsChange m.holdings.size plan.change → p.change ≡ plan.change → length p.root.pointers ≡ 16
+    → p.root.levels ≡ levels_for m.holdings.size (leaves_after m.holdings.size plan.change) → Distinct (all_blocks p.work)
+    → ReachesOnto m n no_work p.work plan (record { level = p.root.levels; first = 0; count = 16 }) (slice_index p.root.pointers) → OwnAsLeft p n now → IsReadyApart plan.order (committed now p) p.root (IsWrittenBy p.change)
+ready_prepared m n now plan p some pos change changes long levels distinct r left = ready_node m n now plan p (reached_prepared m n plan p some pos change changes long levels distinct r) left

@@ -1,11 +1,10 @@
 -- A committed node: its written leaves and the pointer blocks above them are ready, and stand at one position each.
-use Rattle.std.proofs.Common.{◌≡◌, ◌≢◌, ℕ, zero, suc, ◌+◌, ◌*◌, ◌-◌, ◌^◌, ◌/◌, ◌%◌, ◌<◌, ◌≤◌, inl, inr, List, ◌++◌, append_assoc, length, refl, sym, ◌∙◌, ap, subst, arith}
-use Rattle.std.specs.Prelude.{Bool, true, false, ◌==◌, if◌then◌else◌, slice_index, slice_index_or, IsTrue, Contains}
+use Rattle.std.proofs.Common.{◌≡◌, ℕ, zero, suc, ◌+◌, ◌*◌, ◌-◌, ◌^◌, ◌/◌, ◌%◌, ◌<◌, ◌≤◌, inl, inr, List, ◌++◌, append_assoc, length, refl, sym, ◌∙◌, ap, subst, arith}
+use Rattle.std.specs.Prelude.{true, false, ◌==◌, if◌then◌else◌, slice_index, slice_index_or, IsTrue}
 use Rattle.std.proofs.Math.Nat.{div-div-eq-div-mul, div-lt_iff_lt-mul, mul_comm, one-le-pow, pow-suc}
 use Rattle.std.proofs.lemmas.List.{get_or_default}
 use Rattle.std.proofs.lemmas.Nat.{pow-add}
 use Rattle.qx_geom.proofs.Members.{in_append_cases, in_left, in_right}
-use Rattle.qx_geom.proofs.Truths.{not_so, true_or_false}
 use Rattle.qx_geom.specs.declared.root.Root.{Root}
 use Rattle.qx_geom.specs.Lists.{Distinct, is_in}
 use Rattle.qx_geom.specs.Pointer.{absent, per_block}
@@ -13,18 +12,19 @@ use Rattle.qx_nodes.proofs.LeafPaths.{by_one}
 use Rattle.qx_nodes.specs.BlockMap.{BlockMap, word}
 use Rattle.qx_blocks.specs.BlockState.{BlockState, Holdings}
 use Rattle.qx_ptree.specs.declared.fresh_blocks.Plan.{Plan}
-use Rattle.qx_ptree.specs.Building.{LiesUnder, Row, new_pointer, pointer_down}
+use Rattle.qx_ptree.specs.Building.{Row, new_pointer, pointer_down}
 use Rattle.qx_ptree.specs.Fates.{is_written}
 use Rattle.qx_ptree.specs.Reaching.{IsOwnPosition, Reaches, ShowsOwn, own_blocks}
 use Rattle.qx_ptree.specs.ReadyLeaves.{IsAbove, IsReadyApart, IsWrittenBy, OwnAsLeft}
 use Rattle.qx_ptree.specs.Takings.{LeavesOthers, Takes}
 use Rattle.qx_ptree.specs.Trees.{block_map, pointer_at, pointer_from}
-use Rattle.qx_ptree.specs.WorkState.{EditState, Preparation, WorkState, all_blocks, committed, with_edits, without_all}
+use Rattle.qx_ptree.specs.WorkState.{EditState, Preparation, WorkState, all_blocks, blocks_of, committed, with_edits}
 use Rattle.qx_ptree.proofs.DistinctBlocks.{distinct_apart_lists, distinct_left}
 use Rattle.qx_ptree.proofs.EditedBlocks.{edits_give, edits_holdings}
 use Rattle.qx_ptree.proofs.ListedBlocks.{either_right}
 use Rattle.qx_ptree.proofs.OtherBlocks.{LeavesOthers-with_edits, LeavesOthers-without_all}
 use Rattle.qx_ptree.proofs.PointersByPosition.{at_from}
+use Rattle.qx_ptree.proofs.StayingLeaves.{StandIn}
 
 -- ---- the node's pointers
 
@@ -141,4 +141,12 @@ module _ (m n now : BlockState) (plan : Plan) (p : Preparation) (r : IsReached m
         let u : IsOwnPosition m plan row k j = own_position k j low a in
         let v : IsOwnPosition m plan row h i = own_position h i high b in
         r.reaches.apart (committed now p).bytes shows (own_distinct p.work r.distinct) k j h i u v (sym (own_pointer k j u) ∙ same ∙ own_pointer h i v);
+  }
+
+  -- and their blocks are those of the change
+  pub stand_node : StandIn plan.order (committed now p) p.root (IsWrittenBy p.change) (blocks_of p)
+  stand_node = record {
+    own = λ k j h a.
+        let u : IsOwnPosition m plan row k j = own_position k j h a in
+        own_all p.work (pointer_at (block_map plan.order (committed now p)) p.root k j) (subst (λ x. is_in (own_blocks p.work) x ≡ true) (sym (own_pointer k j u)) (r.reaches.own (committed now p).bytes shows k j u));
   }

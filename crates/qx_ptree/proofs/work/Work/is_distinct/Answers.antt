@@ -1,5 +1,5 @@
 -- The blocks are joined, put in order, and looked at side by side.
-use Rattle.std.proofs.Common.{◌≡◌, ℕ, List, [], ◌++◌, refl, ◌∙◌, ap, append_assoc}
+use Rattle.std.proofs.Common.{◌≡◌, ℕ, List, [], ◌++◌, ◌∙◌, ap, append_assoc}
 use Rattle.qx_ptree.specs.WorkState.{all_blocks}
 use Rattle.qx_ptree.proofs.DistinctBlocks.{twins_tell}
 use Rattle.qx_ptree.proofs.work.Work.is_distinct.Goals as goal
