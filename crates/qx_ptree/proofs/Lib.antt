@@ -26,6 +26,7 @@ pub mod BuiltSteps
 pub mod GivenUpParts
 pub mod RowSlices
 pub mod SpineParts
+pub mod PreparedParts
 pub mod KeptPlans
 pub mod ListedBlocks
 pub mod OtherBlocks
