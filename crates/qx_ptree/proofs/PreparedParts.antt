@@ -1,7 +1,8 @@
 -- What the calls of a preparation add to the work, part by part.
 use Rattle.std.proofs.Common.{◌≡◌, ◌≢◌, ℕ, zero, suc, ◌+◌, ◌*◌, ◌-◌, ◌^◌, ◌<◌, ◌≤◌, ◌⊎◌, inl, inr, List, [], ◌∷◌, ◌++◌, append-nil, length, refl, sym, ◌∙◌, ap, subst, arith}
 use Rattle.std.specs.Prelude.{Bool, true, false, not, ◌||◌, ◌==◌, IsTrue, Result, Ok, slice_index}
-use Rattle.std.proofs.Math.Nat.{add-mul, one-mul, pow-zero}
+use Rattle.std.specs.Int.{div_ceil}
+use Rattle.std.proofs.Math.Nat.{pow-zero}
 use Rattle.std.proofs.Math.Numerals.{sub-one}
 use Rattle.std.proofs.lemmas.Bool.{cases_lt, eq-eqb}
 use Rattle.qx_geom.specs.Lists.{is_in}
@@ -32,12 +33,13 @@ use Rattle.qx_ptree.proofs.BuiltSteps.{block_step, leaf_own, row_step}
 use Rattle.qx_ptree.proofs.CarriedPlans.{carried, held_after}
 use Rattle.qx_ptree.proofs.KeptPlans.{told_before}
 use Rattle.qx_ptree.proofs.LeafParts.{part-leaf}
-use Rattle.qx_ptree.proofs.OwnPositions.{below-leaf, below-up}
+use Rattle.qx_ptree.proofs.OwnPositions.{below-up}
 use Rattle.qx_ptree.proofs.PlannedPointers.{IsToldPlan, planned_above, planned_below, planned_lead}
-use Rattle.qx_ptree.proofs.PointerCounts.{words_positive}
+use Rattle.qx_ptree.proofs.PointerCounts.{size_positive, words_positive}
 use Rattle.qx_ptree.proofs.PointersByPosition.{at_above}
 use Rattle.qx_ptree.proofs.QuietParts.{builds_gone, builds_quiet}
 use Rattle.qx_ptree.proofs.SumsBelow.{any_up_to, any_up_to-more}
+use Rattle.qx_ptree.proofs.WholeNeed.{leaves-are}
 use Rattle.qx_ptree.proofs.TakenBlocks.{Takes-none, Takes-same}
 
 -- ---- the part below a block, by its pointer and its leaves' fate
@@ -69,6 +71,24 @@ fare_one blocksize plan f index is = λ i from to.
     let high : i < (index + 1) * 1 = subst (λ x. i < (index + 1) * x) one to in
     let same : i ≡ index = omega arith in
     ap (fate_of (leaves_after blocksize plan.change) plan.change) same ∙ is
+
+-- the part of a leaf that is written
+pub written_part : (m : BlockState) (plan : Plan) (index : ℕ) → IsToldPlan m plan → fate_of (leaves_after m.holdings.size plan.change) plan.change index ≡ Written
+    → part_of (alteration_in plan m) 0 index ≡ leaf_part Written (is_in (alteration_in plan m).old.present index) ((alteration_in plan m).private 0 index)
+written_part m plan index p fate =
+    part-leaf m.holdings.size (shape_in (block_map plan.order m) plan.node) plan.change (alteration_in plan m).private index (present_ascends (block_map plan.order m) plan.node (words_positive m.holdings.size p.consistent.size))
+    ∙ ap (λ f. leaf_part f (is_in (alteration_in plan m).old.present index) ((alteration_in plan m).private 0 index)) fate
+
+-- the fate of a leaf, as it is looked up
+pub fate_here : (m : BlockState) (plan : Plan) (index leaves size : ℕ) (f g : Fate) → IsConsistent m → g ≡ fate_of leaves plan.change index → g ≡ f → leaves ≡ div_ceil plan.change.size size → size ≡ m.holdings.size → fate_of (leaves_after m.holdings.size plan.change) plan.change index ≡ f
+fate_here m plan index leaves size f g s g_is f_is leaves_is size_is =
+    sym (ap (λ n. fate_of n plan.change index) (leaves_is ∙ leaves-are plan.change m.holdings.size size (size_positive m.holdings.size s.size) size_is)) ∙ sym g_is ∙ f_is
+
+-- the part below a block where no leaf is written, by the pointer that is known
+pub fare_part : (m : BlockState) (plan : Plan) (f : Fate) (level index p : ℕ) → IsConsistent m → length plan.node.pointers ≡ 16 → IsPlan m plan → (f ≡ Written → ⊥) → level ≤ (alteration_in plan m).new.levels → (level ≤ plan.node.levels) ⊎ (index ≢ 0)
+    → (IsTrue m.tells → p ≡ planned_pointer plan m level index) → AllFare m.holdings.size plan.change f level index → IsTrue m.tells → part_of (alteration_in plan m) level index ≡ leaf_part f (not (p == absent)) true
+fare_part m plan f level index p s long met un low within is all told =
+    planned_fare m plan f level index (record { consistent = s; long = long; met = met; told = told }) un low within all ∙ ap (λ q. leaf_part f (not (q == absent)) true) (sym (is told))
 
 -- ---- parts that are not gone through
 
@@ -117,12 +137,6 @@ leaf_onto m n plan index p q before after s long met is fate w = record {
       builds_leaf m n plan p_told w.adds.added index q
       (leaf_own m n plan index q w.adds.added p_told told (ap (λ (x : Part). x.changed) part) (ap (λ (x : Part). x.present) part) (subst (λ x. LeafWork m n x q w.adds.added) (is told_m) w.work));
 }
-  where
-    written_part : (m : BlockState) (plan : Plan) (index : ℕ) → IsToldPlan m plan → fate_of (leaves_after m.holdings.size plan.change) plan.change index ≡ Written
-        → part_of (alteration_in plan m) 0 index ≡ leaf_part Written (is_in (alteration_in plan m).old.present index) ((alteration_in plan m).private 0 index)
-    written_part m plan index p fate =
-        part-leaf m.holdings.size (shape_in (block_map plan.order m) plan.node) plan.change (alteration_in plan m).private index (present_ascends (block_map plan.order m) plan.node (words_positive m.holdings.size p.consistent.size))
-        ∙ ap (λ f. leaf_part f (is_in (alteration_in plan m).old.present index) ((alteration_in plan m).private 0 index)) fate
 
 -- ---- whether something changed, or is present, below the words so far
 
