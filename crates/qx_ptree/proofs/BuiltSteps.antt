@@ -185,7 +185,7 @@ row_step m n o plan w v level first count q tops more p s told alike last t u b 
     (builds_earlier m n o plan p (carried w.fresh m n plan p t told_n s) v (one_block level (first + count)) (λ _. q) c)
 
 -- a pointer block above a row
-pub block_step : (m n o : BlockState) (plan : Plan) (w v : WorkState) (l index q : ℕ) (tops : ℕ → ℕ) (pointers : List ℕ) (changed present : Bool) → IsToldPlan m plan → IsConsistent o → IsTrue o.tells → suc l ≤ (alteration_in plan m).new.levels
+pub block_step : (m n o : BlockState) (plan : Plan) (w v : WorkState) (l index q : ℕ) (tops : ℕ → ℕ) (pointers : List ℕ) (changed present : Bool) → IsToldPlan m plan → o.holdings.held absent ≡ false → IsTrue o.tells → suc l ≤ (alteration_in plan m).new.levels
     → length pointers ≡ per_block m.holdings.size → ((v : ℕ) → v < length pointers → slice_index pointers v < 2 ^ 32) → ((v : ℕ) → v < per_block m.holdings.size → slice_index pointers v ≡ tops (index * per_block m.holdings.size + v))
     → (part_of (alteration_in plan m) (suc l) index).changed ≡ changed → (part_of (alteration_in plan m) (suc l) index).present ≡ present → Takes w.fresh m n → Takes v.fresh n o
     → Builds m n plan w (record { level = l; first = index * per_block m.holdings.size; count = per_block m.holdings.size }) tops
@@ -195,6 +195,6 @@ block_step m n o plan w v l index q tops pointers changed present p s told withi
     let row : Row = record { level = l; first = index * per_block m.holdings.size; count = per_block m.holdings.size } in
     let below : Builds m o plan w row tops = builds_later v.fresh m m n o plan w row tops t u told b in
     let work : BlockWork plan.order m o (planned_pointer plan m (suc l) index) pointers changed present q v = block_earlier w.fresh m n o plan.order (planned_pointer plan m (suc l) index) pointers changed present q v t (λ there. pointer_held m plan (suc l) index p there) c in
-    let numbers : (x : ℕ) → is_in v.fresh x ≡ true → x ≢ absent = λ x e is. let low : x < o.holdings.count = s.numbers x (fresh_held v.fresh n o x u e) in omega (arith, s.count) in
+    let numbers : (x : ℕ) → is_in v.fresh x ≡ true → x ≢ absent = λ x e is. true_or_false (o.holdings.held absent) (subst (λ b. IsTrue (o.holdings.held b)) is (fresh_held v.fresh n o x u e)) s in
     builds_block m o plan p l index q within w v tops below (block_own m o plan (suc l) index pointers changed present q v p (omega arith) within changed_is present_is work)
     (λ x. taken_apart w.fresh v.fresh m n o x t u) (words_lead m o plan p l index within tops pointers long fits tops_are w v changed present q work numbers changed_is present_is below)

@@ -44,6 +44,7 @@ pub mod BuiltSteps
 pub mod GivenUpParts
 pub mod RowSlices
 pub mod SpineParts
+pub mod PreparedParts
 pub mod ListedBlocks
 pub mod OtherBlocks
 pub mod TakenBlocks

@@ -102,10 +102,10 @@ pub record Builds (m n : BlockState) (plan : Plan) (work : WorkState) (row : Row
   pub edited : (e : EditState) → Contains work.edits e → (k : ℕ) × (j : ℕ) × IsOldPosition m plan row k j e.block × (is_kept (alteration_in plan m) k j ≡ true) × (0 < k)
   pub edit_once : (e f : EditState) → Contains work.edits e → Contains work.edits f → e.block ≡ f.block → e ≡ f
 
--- what is added to some work was done below a row
+-- what is added to some work was done below a row, if no tree holds a block by the number that leads to none
 pub record BuildsOnto (m n : BlockState) (before after : WorkState) (plan : Plan) (row : Row) (tops : ℕ → ℕ) : Type 0 where
   pub adds : Adds m n before after
-  pub builds : IsTrue n.tells → Builds m n plan adds.added row tops
+  pub builds : IsTrue n.tells → n.holdings.held absent ≡ false → Builds m n plan adds.added row tops
 
 -- only blocks to be given up were added
 abbrev pub with_released : WorkState → List ℕ → WorkState

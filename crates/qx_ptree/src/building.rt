@@ -215,6 +215,7 @@ fn prepare_leaf<B: Blocks>(
     index: u64,
     pointer: u32,
 ) -> Result<Below, Stop>
+    requires reach { InReach (B.state blocks.old).holdings.size 0 index }
     requires long { length plan.now.node.pointers ≡ 16 }
     requires plan { IsPlan (B.state blocks.old) plan.now }
     requires leads { ¬ (pointer ≡ absent) → IsTrue ((B.state blocks.old).holdings.works pointer) }
@@ -228,20 +229,17 @@ fn prepare_leaf<B: Blocks>(
     ensures cause { HasStopCause (B.faults blocks.old) (B.faults blocks.new) result }
 {
     let leaves = plan.change.size.div_ceil(blocks.size() as u64);
-    let had = pointer != ABSENT;
     match leaf_fate(&plan.change, leaves, index) {
         Fate::Stays => Ok(Below {
             pointer,
             changed: false,
-            present: had,
+            present: pointer != ABSENT,
         }),
         Fate::Goes => {
-            if had {
-                work.give_up(pointer)?;
-            }
+            give_up_below(blocks, plan, work, 0, index, pointer)?;
             Ok(Below {
                 pointer: ABSENT,
-                changed: had,
+                changed: pointer != ABSENT,
                 present: false,
             })
         }

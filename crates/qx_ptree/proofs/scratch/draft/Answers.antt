@@ -1,5 +1,6 @@
 use Rattle.std.proofs.Common.{refl}
 use Rattle.qx_ptree.proofs.UnderRows.{words_under}
+use Rattle.qx_ptree.proofs.PreparedParts.{block_onto}
 use Rattle.qx_ptree.proofs.RowSlices.{later_at}
 use Rattle.qx_ptree.proofs.SpineParts.{none_outside}
 use Rattle.qx_ptree.proofs.GivenUpParts.{gives_then}
