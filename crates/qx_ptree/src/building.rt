@@ -10,7 +10,7 @@ ghost use Rattle.qx_ptree.specs.Building.{BuildsOnto, BuildsTree, GivesUp, LiesO
 ghost use Rattle.qx_ptree.specs.Fates.{IsChange, leaves_after};
 ghost use Rattle.qx_ptree.specs.Parts.{part_of};
 ghost use Rattle.qx_ptree.specs.Plans.{InReach, IsPlan, alteration_in, planned_pointer};
-ghost use Rattle.qx_ptree.specs.Reaching.{ReachesOnto};
+ghost use Rattle.qx_ptree.specs.Reaching.{IsMarked, ReachesOnto};
 ghost use Rattle.qx_ptree.specs.ReadyLeaves.{IsReadyApart, IsWrittenBy, OwnAsLeft};
 ghost use Rattle.qx_ptree.specs.Takings.{Adds, Takes};
 ghost use Rattle.qx_ptree.specs.Trees.{HasLevels, IsRegular, IsWorking};
@@ -150,6 +150,7 @@ fn prepare_at<B: Blocks>(
     ensures present { IfOk result (λ below. IsTrue (B.state blocks.new).tells → below.present ≡ (part_of (alteration_in plan.now (B.state blocks.old)) level index).present) }
 
     ensures reaches { IfOk result (λ below. ReachesOnto (B.state blocks.old) (B.state blocks.new) work.old work.new plan.now (one_block level index) (λ _. below.pointer)) }
+    ensures marked { IfOk result (λ below. IsMarked (B.state blocks.old) plan.now (one_block level index) below.changed below.present) }
     ensures consistent { IsConsistent (B.state blocks.old) }
     ensures err { OnErr result (Adds (B.state blocks.old) (B.state blocks.new) work.old work.new) }
     ensures aside { B.Blocks.aside blocks.new ≡ B.Blocks.aside blocks.old }
@@ -224,6 +225,8 @@ fn prepare_leaf<B: Blocks>(
     ensures changed { IfOk result (λ below. IsTrue (B.state blocks.new).tells → below.changed ≡ (part_of (alteration_in plan.now (B.state blocks.old)) 0 index).changed) }
     ensures present { IfOk result (λ below. IsTrue (B.state blocks.new).tells → below.present ≡ (part_of (alteration_in plan.now (B.state blocks.old)) 0 index).present) }
 
+    ensures reaches { IfOk result (λ below. ReachesOnto (B.state blocks.old) (B.state blocks.new) work.old work.new plan.now (one_block 0 index) (λ _. below.pointer)) }
+    ensures marked { IfOk result (λ below. IsMarked (B.state blocks.old) plan.now (one_block 0 index) below.changed below.present) }
     ensures err { OnErr result (Adds (B.state blocks.old) (B.state blocks.new) work.old work.new) }
     ensures aside { B.Blocks.aside blocks.new ≡ B.Blocks.aside blocks.old }
     ensures cause { HasStopCause (B.faults blocks.old) (B.faults blocks.new) result }
