@@ -155,6 +155,7 @@ fn prepare_at<B: Blocks>(
     ensures aside { B.Blocks.aside blocks.new ≡ B.Blocks.aside blocks.old }
     ensures cause { HasStopCause (B.faults blocks.old) (B.faults blocks.new) result }
 {
+    let _ = blocks.size();
     Err(Stop::NoMemory)
 }
 
