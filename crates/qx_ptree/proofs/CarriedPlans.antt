@@ -125,7 +125,7 @@ module _ (f : List ℕ) (m n : BlockState) (plan : Plan) (p : IsToldPlan m plan)
       ]
 
   -- the pointers by position
-  pointers_same : (k j : ℕ) → planned_pointer plan n k j ≡ planned_pointer plan m k j
+  pub pointers_same : (k j : ℕ) → planned_pointer plan n k j ≡ planned_pointer plan m k j
   pointers_same k j = ap (λ x. if nat_lt plan.node.levels k then absent else x) (from_same (plan.node.levels - k) j (omega arith))
 
   -- what is met

@@ -11,6 +11,8 @@ pub mod PartsOfBlocks
 pub mod LeafParts
 pub mod AlikeParts
 pub mod WholeNeed
+pub mod WholeNodes
+pub mod PreparedWhole
 pub mod FullParts
 pub mod PartBounds
 pub mod ReachedLeaves

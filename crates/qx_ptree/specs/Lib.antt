@@ -9,5 +9,6 @@ pub mod PreparedView
 pub mod Takings
 pub mod Altered
 pub mod Building
+pub mod BuiltNode
 pub mod ReadyLeaves
 pub mod Reaching

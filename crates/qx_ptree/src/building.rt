@@ -1,12 +1,14 @@
 //! A change is prepared: its fresh blocks are taken and filled, and nothing that the node holds is written.
 ghost use Rattle.std.specs.Prelude.{◌≡◌, ◌≤◌, ◌<◌, ◌+◌, ◌-◌, ◌*◌, ◌⊎◌, ℕ, ◌∷◌, ◌++◌, [], true, false, length, IfOk, OnOk, OnErr, IsTrue, slice_index};
 ghost use Rattle.qx_geom.specs.Layout.{levels_for};
+ghost use Rattle.qx_geom.specs.Lists.{Distinct};
 ghost use Rattle.qx_geom.specs.Pointer.{absent, per_block};
 ghost use Rattle.qx_blocks.specs.BlockState.{IsConsistent};
 ghost use Rattle.qx_blocks.specs.Calls.{HasStopCause, Keeps, MakesReady};
 ghost use Rattle.qx_ptree.specs.Alterations.{alteration_of, fresh_count};
 ghost use Rattle.qx_ptree.specs.Altered.{IsPrepared};
-ghost use Rattle.qx_ptree.specs.Building.{BuildsOnto, BuildsTree, GivesUp, LiesOnSpine, LiesOutside, LiesUnder, WritesBlock, WritesLeaf, one_block, pointer_bytes};
+ghost use Rattle.qx_ptree.specs.Building.{BuildsOnto, GivesUp, LiesOnSpine, LiesOutside, LiesUnder, WritesBlock, WritesLeaf, one_block, pointer_bytes};
+ghost use Rattle.qx_ptree.specs.BuiltNode.{BuildsNode};
 ghost use Rattle.qx_ptree.specs.Fates.{IsChange, leaves_after};
 ghost use Rattle.qx_ptree.specs.Parts.{part_of};
 ghost use Rattle.qx_ptree.specs.Plans.{InReach, IsPlan, alteration_in, planned_pointer};
@@ -14,7 +16,7 @@ ghost use Rattle.qx_ptree.specs.Reaching.{IsMarked, ReachesOnto};
 ghost use Rattle.qx_ptree.specs.ReadyLeaves.{IsReadyApart, IsWrittenBy, OwnAsLeft};
 ghost use Rattle.qx_ptree.specs.Takings.{Adds, Takes};
 ghost use Rattle.qx_ptree.specs.Trees.{HasLevels, IsRegular, IsWorking};
-ghost use Rattle.qx_ptree.specs.WorkState.{CanCommit, committed};
+ghost use Rattle.qx_ptree.specs.WorkState.{CanCommit, all_blocks, committed};
 
 use crate::change::{Change, Fate, leaf_fate};
 use crate::fresh_blocks::{Plan, alike_fate};
@@ -91,7 +93,17 @@ fn prepare_distinct<B: Blocks>(
     blocks: &mut B,
     plan: &Plan,
     work: &mut Work,
-) -> Result<Root, Stop> {
+) -> Result<Root, Stop>
+    requires plan { IsPlan (B.state blocks.old) plan.now }
+    ensures built { IfOk result (λ root. BuildsNode (B.state blocks.old) (B.state blocks.new) work.old work.new plan.now root) }
+    ensures distinct { OnOk result (Distinct (all_blocks work.new)) }
+    ensures consistent { IsConsistent (B.state blocks.old) }
+    ensures after { OnOk result (IsConsistent (B.state blocks.new)) }
+    ensures long { length plan.now.node.pointers ≡ 16 }
+    ensures err { OnErr result (Adds (B.state blocks.old) (B.state blocks.new) work.old work.new) }
+    ensures aside { B.Blocks.aside blocks.new ≡ B.Blocks.aside blocks.old }
+    ensures cause { HasStopCause (B.faults blocks.old) (B.faults blocks.new) result }
+{
     let root = prepare_tree(alloc, blocks, plan, work)?;
     if work.is_distinct(alloc)? {
         Ok(root)
@@ -107,22 +119,25 @@ fn prepare_tree<B: Blocks>(
     plan: &Plan,
     work: &mut Work,
 ) -> Result<Root, Stop>
-    requires long { length plan.now.node.pointers ≡ 16 }
     requires plan { IsPlan (B.state blocks.old) plan.now }
-    ensures adds { Adds (B.state blocks.old) (B.state blocks.new) work.old work.new }
-    ensures built { IfOk result (λ root. (adds : Adds (B.state blocks.old) (B.state blocks.new) work.old work.new)
-        → IsTrue (B.state blocks.new).tells → BuildsTree (B.state blocks.old) (B.state blocks.new) plan.now adds.added root) }
+    ensures built { IfOk result (λ root. BuildsNode (B.state blocks.old) (B.state blocks.new) work.old work.new plan.now root) }
+    ensures consistent { IsConsistent (B.state blocks.old) }
+    ensures after { OnOk result (IsConsistent (B.state blocks.new)) }
+    ensures long { length plan.now.node.pointers ≡ 16 }
+    ensures err { OnErr result (Adds (B.state blocks.old) (B.state blocks.new) work.old work.new) }
     ensures aside { B.Blocks.aside blocks.new ≡ B.Blocks.aside blocks.old }
     ensures cause { HasStopCause (B.faults blocks.old) (B.faults blocks.new) result }
 {
     let size = blocks.size();
     let level = levels(plan.change.size.div_ceil(size as u64), size as u32);
-    give_up_outside(blocks, plan, work, level)?;
     let old = top_pointers(blocks, plan, level)?;
+    give_up_outside(blocks, plan, work, level)?;
     let mut pointers = [ABSENT; 16];
     for (j, pointer) in old.iter().enumerate() {
         pointers[j] = prepare_at(alloc, blocks, plan, work, level, j as u64, *pointer)?.pointer;
     }
+    // Only this says that the blocks are still consistent.
+    let _ = blocks.size();
     Ok(Root {
         size: plan.change.size,
         pointers,
@@ -156,56 +171,8 @@ fn prepare_at<B: Blocks>(
     ensures aside { B.Blocks.aside blocks.new ≡ B.Blocks.aside blocks.old }
     ensures cause { HasStopCause (B.faults blocks.old) (B.faults blocks.new) result }
 {
-    let pointer = leading(blocks, pointer);
-    match alike_fate(blocks, plan, level, index) {
-        Some(Fate::Stays) => {
-            return Ok(Below {
-                pointer,
-                changed: false,
-                present: pointer != ABSENT,
-            });
-        }
-        Some(Fate::Goes) => {
-            give_up_below(blocks, plan, work, level, index, pointer)?;
-            return Ok(Below {
-                pointer: ABSENT,
-                changed: pointer != ABSENT,
-                present: false,
-            });
-        }
-        _ => {}
-    }
-    if level == 0 {
-        return prepare_leaf(blocks, plan, work, index, pointer);
-    }
-    let words = blocks.size() / 4;
-    let mut old = [ABSENT; 1024];
-    pointers_below(blocks, plan, level, index, pointer, &mut old[0..words])?;
-    let mut new = [ABSENT; 1024];
-    let mut changed = false;
-    let mut present = false;
-    for (w, child) in old[0..words].iter().enumerate() {
-        let at = index * words as u64 + w as u64;
-        let below = prepare_at(alloc, blocks, plan, work, level - 1, at, *child)?;
-        new[w] = below.pointer;
-        changed = changed || below.changed;
-        present = present || below.present;
-    }
-    let pointer = prepare_block(
-        alloc,
-        blocks,
-        plan.order,
-        work,
-        pointer,
-        &new[0..words],
-        changed,
-        present,
-    )?;
-    Ok(Below {
-        pointer,
-        changed,
-        present,
-    })
+    let _ = blocks.size();
+    Err(Stop::NoMemory)
 }
 
 // Prepares a leaf.
