@@ -1,17 +1,17 @@
 -- Work that is added, step by step.
 use Rattle.std.proofs.Common.{◌≡◌, ℕ, inl, inr, [], ◌∷◌, ◌++◌, List, length, refl, sym, ◌∙◌, ap, subst, arith}
-use Rattle.std.specs.Prelude.{true, false, ◌||◌, IsTrue, Contains}
+use Rattle.std.specs.Prelude.{true, IsTrue}
 use Rattle.std.proofs.lemmas.List.{append-nil, append_assoc}
 use Rattle.std.proofs.lemmas.List.Elements.{Contains-append_cases}
 use Rattle.qx_geom.specs.Lists.{is_in}
 use Rattle.qx_geom.proofs.Members.{Contains-cases, in_append_cases, in_cases, in_head, in_left, in_right}
-use Rattle.qx_blocks.specs.BlockState.{BlockState}
-use Rattle.qx_blocks.specs.Calls.{MakesReady}
-use Rattle.qx_ptree.specs.Building.{work_edited, work_kept, work_lost, work_moved, work_taken}
+use Rattle.qx_blocks.specs.BlockState.{BlockState, Holdings}
+use Rattle.qx_blocks.specs.Calls.{Keeps, MakesReady}
+use Rattle.qx_ptree.specs.Building.{with_released, work_edited, work_kept, work_lost, work_moved, work_taken}
 use Rattle.qx_ptree.specs.Takings.{Adds, Takes}
 use Rattle.qx_ptree.specs.WorkState.{CanEdit, EditState, WorkState, and_then, no_work}
 use Rattle.qx_ptree.proofs.ListedBlocks.{either_left}
-use Rattle.qx_ptree.proofs.TakenBlocks.{Takes-ready, Takes-same, Takes-then, ready-made}
+use Rattle.qx_ptree.proofs.TakenBlocks.{Takes-after, Takes-before, Takes-none, Takes-ready, Takes-then, ready-made}
 
 -- ---- the work itself
 
@@ -48,6 +48,10 @@ and_then-moved a to from = λ i. record { fresh = a.fresh ++ to ∷ []; edits = 
 pub and_then-edited : (a : WorkState) (b : ℕ) (bytes : List ℕ) → and_then a (work_edited b bytes) ≡ record a { edits = a.edits ++ (record { block = b; bytes = bytes }) ∷ []; kept = a.kept ++ b ∷ [] }
 and_then-edited a b bytes = λ i. record { fresh = append-nil a.fresh i; edits = a.edits ++ (record { block = b; bytes = bytes }) ∷ []; kept = a.kept ++ b ∷ []; released = append-nil a.released i }
 
+-- some blocks are to be given up
+pub and_then-released : (a : WorkState) (blocks : List ℕ) → and_then a (with_released no_work blocks) ≡ with_released a blocks
+and_then-released a blocks = λ i. record { fresh = append-nil a.fresh i; edits = append-nil a.edits i; kept = append-nil a.kept i; released = a.released ++ blocks }
+
 -- ---- what can be edited
 
 -- no edit is in the way
@@ -80,7 +84,7 @@ CanEdit-then m a b first second e c = elim (Contains-append_cases a.edits b.edit
 pub nothing_in : (q : ℕ) → is_in [] q ≡ true → ⊥
 nothing_in q t = cc
 
--- blocks were taken at most
+-- nothing was added
 abbrev pub adds_none : (m n : BlockState) (before after : WorkState) → Takes [] m n → after ≡ before → Adds m n before after
 adds_none m n before after f same = record {
   added = no_work;
@@ -160,4 +164,34 @@ adds_then m n o a b c f g = record {
   takes = Takes-then f.added.fresh g.added.fresh m n o f.takes g.takes;
   kept = λ q t. kept-then m n o a b c f g q t;
   edits = CanEdit-then o f.added g.added (CanEdit-later g.added.fresh n o f.added g.takes f.edits) g.edits;
+}
+
+-- only blocks to be given up were noted
+abbrev pub adds_released : (m n : BlockState) (before after : WorkState) (blocks : List ℕ) → Takes [] m n → after ≡ with_released before blocks → Adds m n before after
+adds_released m n before after blocks f noted = record {
+  added = with_released no_work blocks;
+  is = noted ∙ sym (and_then-released before blocks);
+  takes = f;
+  kept = λ q t. absurd (nothing_in q t);
+  edits = CanEdit-none n (with_released no_work blocks) refl;
+}
+
+-- no more than bytes untold came before
+abbrev pub adds_after : (m n o : BlockState) (a b : WorkState) → Keeps m n → Adds n o a b → Adds m o a b
+adds_after m n o a b k g = record {
+  added = g.added;
+  is = g.is;
+  takes = Takes-after g.added.fresh m n o k g.takes;
+  kept = g.kept;
+  edits = g.edits;
+}
+
+-- no more than bytes untold came afterwards
+abbrev pub adds_before : (m n o : BlockState) (a b : WorkState) → Adds m n a b → Keeps n o → Adds m o a b
+adds_before m n o a b f k = record {
+  added = f.added;
+  is = f.is;
+  takes = Takes-before f.added.fresh m n o f.takes k;
+  kept = λ q t. ap (λ (h : Holdings). h.ready q) k.holdings ∙ f.kept q t;
+  edits = CanEdit-later [] n o f.added (Takes-none n o k) f.edits;
 }

@@ -1,11 +1,11 @@
 -- Blocks that were taken and are given back.
-use Rattle.std.proofs.Common.{◌≡◌, ℕ, ◌+◌, inl, inr, [], ◌∷◌, List, length, refl, sym, ◌∙◌, ap, subst, arith}
-use Rattle.std.specs.Prelude.{Bool, true, false, ◌||◌, IsTrue, if◌then◌else◌}
-use Rattle.std.proofs.lemmas.Bool.{cases_eq, or_cases}
-use Rattle.qx_geom.specs.Lists.{Distinct, is_in}
+use Rattle.std.proofs.Common.{◌≡◌, ℕ, inl, inr, [], ◌∷◌, List, sym, ◌∙◌, ap, subst, arith}
+use Rattle.std.specs.Prelude.{true, false, ◌||◌, if◌then◌else◌}
+use Rattle.std.proofs.lemmas.Bool.{or_cases}
+use Rattle.qx_geom.specs.Lists.{is_in}
 use Rattle.qx_geom.proofs.Truths.{true_or_false}
 use Rattle.qx_geom.proofs.Members.{in_head, in_tail}
-use Rattle.qx_blocks.specs.BlockState.{BlockState, put, with_free, with_shared, without}
+use Rattle.qx_blocks.specs.BlockState.{BlockState, with_free, with_shared, without}
 use Rattle.qx_ptree.specs.Takings.{Takes}
 use Rattle.qx_ptree.specs.WorkState.{given_up, without_all}
 use Rattle.qx_ptree.proofs.ListedBlocks.{either_left, either_right, first_once, one_less, put-other}
@@ -34,13 +34,16 @@ Takes-freed b fresh m n f = record {
 } where
   once : is_in fresh b ≡ false
   once = first_once b fresh f.distinct
+
   unused : (m.holdings.works b ≡ false) × (m.holdings.private b ≡ false) × (m.holdings.ready b ≡ false)
   unused = f.unused b (in_head b fresh)
+
   differ : (q : ℕ) → q ≡ b → (m.holdings.ready q || is_in fresh q) ≡ true → ⊥
   differ q e t = elim (or_cases (m.holdings.ready q) (is_in fresh q) t) [
     | inl r ↦ true_or_false (m.holdings.ready b) (ap m.holdings.ready (sym e) ∙ r) unused.2
     | inr in' ↦ true_or_false (is_in fresh b) (ap (is_in fresh) (sym e) ∙ in') once
   ]
+
   grown : (q : ℕ) → (m.holdings.ready q || is_in fresh q) ≡ true → (m.holdings.ready q || is_in (b ∷ fresh) q) ≡ true
   grown q t = elim (or_cases (m.holdings.ready q) (is_in fresh q) t) [
     | inl r ↦ either_left (m.holdings.ready q) (is_in (b ∷ fresh) q) r

@@ -1,12 +1,11 @@
 -- Functions of block numbers that differ at listed ones.
 use Rattle.std.proofs.Common.{◌≡◌, ℕ, inl, inr, [], ◌∷◌, ◌++◌, List, refl, sym, ◌∙◌, ap}
-use Rattle.std.specs.Prelude.{Bool, true, false, ◌||◌, ◌==◌, nat_eq, if◌then◌else◌, Contains}
+use Rattle.std.specs.Prelude.{Bool, true, false, ◌||◌, nat_eq, if◌then◌else◌}
 use Rattle.std.proofs.Math.Bool.{or-false, or_assoc}
-use Rattle.std.proofs.lemmas.Bool.{cases_eq, or_cases, eq-eqb, ne_eqb}
+use Rattle.std.proofs.lemmas.Bool.{cases_eq, eq-eqb, ne_eqb}
 use Rattle.std.proofs.lemmas.List.Folds.{list_any-append}
 use Rattle.qx_geom.specs.Lists.{Distinct, is_in}
 use Rattle.qx_geom.proofs.Truths.{not_so, true_or_false}
-use Rattle.qx_geom.proofs.Members.{in_head}
 use Rattle.qx_geom.proofs.ImagesAndFilters.{Contains-in}
 use Rattle.qx_blocks.specs.BlockState.{put}
 

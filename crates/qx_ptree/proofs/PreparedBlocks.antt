@@ -1,21 +1,20 @@
 -- What is prepared at one block.
 use Rattle.std.proofs.Common.{◌≡◌, ℕ, ◌+◌, ◌*◌, ◌<◌, inl, inr, [], ◌∷◌, ◌++◌, List, length, refl, sym, ◌∙◌, ap, subst, arith, Ok, Err}
-use Rattle.std.specs.Prelude.{Bool, true, false, IsTrue, IfOk, OnErr, Result, replicate, take, drop}
+use Rattle.std.specs.Prelude.{Bool, true, false, IsTrue, IfOk, OnErr, OnOk, Result, replicate, take}
+use Rattle.std.proofs.Math.Seq.{take-append_seam}
 use Rattle.std.proofs.lemmas.List.{append-nil, drop_all}
 use Rattle.qx_fields.specs.declared.order.Order.{Order}
-use Rattle.qx_fields.specs.Number.{all_digits, put_fields}
+use Rattle.qx_fields.specs.Number.{put_fields}
 use Rattle.qx_fields.proofs.Fields.{length_all_digits}
-use Rattle.qx_geom.specs.Lists.{is_in}
 use Rattle.qx_geom.specs.Pointer.{absent, per_block}
-use Rattle.qx_geom.proofs.Members.{in_head}
 use Rattle.qx_blocks.specs.declared.blocks.Stop.{Stop}
 use Rattle.qx_blocks.specs.BlockState.{BlockState, IsConsistent, put, with_bytes, with_fresh}
 use Rattle.qx_blocks.specs.Calls.{Keeps, MakesReady}
-use Rattle.qx_ptree.specs.Building.{BlockWork, LeafWork, WritesBlock, WritesLeaf, pointer_bytes, work_edited, work_kept, work_lost, work_moved, work_taken}
+use Rattle.qx_ptree.specs.Building.{BlockWork, LeafWork, WritesBlock, WritesLeaf, pointer_bytes}
 use Rattle.qx_ptree.specs.Takings.{Adds, Takes}
 use Rattle.qx_ptree.specs.WorkState.{WorkState}
 use Rattle.qx_ptree.proofs.ListedBlocks.{put-at}
-use Rattle.qx_ptree.proofs.TakenBlocks.{Takes-fresh, Takes-none, Takes-one, Takes-ready, Takes-same, Takes-written}
+use Rattle.qx_ptree.proofs.TakenBlocks.{Takes-fresh, Takes-none, Takes-same}
 use Rattle.qx_ptree.proofs.AddedWork.{adds_edited, adds_kept, adds_lost, adds_moved, adds_none, adds_taken}
 
 -- ---- any result
@@ -84,12 +83,24 @@ block_filled m pointers k long = elim k.size [
 pub pointer_bytes-length : (order : Order) (m : BlockState) (pointers : List ℕ) → IsConsistent m → length pointers ≡ per_block m.holdings.size → length (pointer_bytes order pointers) ≡ m.holdings.size
 pointer_bytes-length order m pointers k long = length_all_digits order 4 pointers ∙ block_filled m pointers k long
 
--- a fresh block was written
-pub fresh_written : (m n o : BlockState) (b : ℕ) (bytes : List ℕ) → IsConsistent m → m.holdings.held b ≡ false → 0 < m.holdings.free → n ≡ with_fresh m b → o ≡ with_bytes n b bytes → Takes (b ∷ []) m o × (o.bytes b ≡ bytes)
-fresh_written m n o b bytes k unheld room taken written =
-    let is : o ≡ with_bytes (with_fresh m b) b bytes = written ∙ ap (λ (s : BlockState). with_bytes s b bytes) taken in
-    ( subst (Takes (b ∷ []) m) (sym is) (Takes-written (b ∷ []) m (with_fresh m b) b bytes (Takes-fresh m b k unheld room) (in_head b []))
-    , ap (λ (s : BlockState). s.bytes b) is ∙ put-at (with_fresh m b).bytes b b bytes refl )
+-- pointers that were put into a whole block are its bytes, as many as it has
+pub whole_put : (order : Order) (m : BlockState) (into new pointers : List ℕ) → IsConsistent m → length pointers ≡ per_block m.holdings.size → length into ≡ m.holdings.size → new ≡ put_fields order 4 into 0 pointers
+    → (new ≡ pointer_bytes order pointers) × (length new ≡ m.holdings.size)
+whole_put order m into new pointers k long room put =
+    let is : new ≡ pointer_bytes order pointers = put ∙ whole_bytes order into pointers (room ∙ sym (block_filled m pointers k long)) in
+    (is, ap length is ∙ pointer_bytes-length order m pointers k long)
+
+-- as many bytes written over a Vec's are what it has
+pub written_over : (n : ℕ) (new rest : List ℕ) → n ≡ length new → take n (new ++ rest) ≡ new
+written_over n new rest long = ap (λ k. take k (new ++ rest)) long ∙ take-append_seam new rest
+
+-- a block stays, and is then noted to get these bytes
+pub edit_noted : {T E : Type 0} (r : Result T E) (before mid after : WorkState) (p : ℕ) (written bytes : List ℕ) → mid ≡ record before { kept = before.kept ++ p ∷ [] } → written ≡ bytes
+    → OnOk r (after ≡ record mid { edits = mid.edits ++ (record { block = p; bytes = written }) ∷ [] })
+    → OnOk r (after ≡ record before { edits = before.edits ++ (record { block = p; bytes = bytes }) ∷ []; kept = before.kept ++ p ∷ [] })
+edit_noted (Err e) before mid after p written bytes kept same noted = tt
+edit_noted (Ok x) before mid after p written bytes kept same noted =
+    noted ∙ (λ i. record (kept i) { edits = (kept i).edits ++ (record { block = p; bytes = same i }) ∷ [] })
 
 -- where nothing is present, and nothing was, there is no block
 pub block_never : (order : Order) (m : BlockState) (work : WorkState) (p : ℕ) (pointers : List ℕ) (changed present : Bool) → p ≡ absent → present ≡ false → WritesBlock order m m work work p pointers changed present absent

@@ -1,6 +1,6 @@
 -- Paths to leaves whose blocks are all ready.
-use Rattle.std.proofs.Common.{◌≡◌, ℕ, zero, suc, ◌+◌, ◌-◌, ◌*◌, ◌/◌, ◌%◌, ◌^◌, ◌<◌, ◌≤◌, inl, inr, List, length, get_or, refl, sym, ◌∙◌, ap, subst, arith}
-use Rattle.std.specs.Prelude.{Bool, true, false, ◌==◌, nat_lt, if◌then◌else◌, IsTrue, slice_index_or}
+use Rattle.std.proofs.Common.{◌≡◌, ℕ, zero, suc, ◌+◌, ◌-◌, ◌*◌, ◌/◌, ◌%◌, ◌^◌, ◌<◌, ◌≤◌, inl, inr, length, refl, sym, ◌∙◌, ap, subst, arith}
+use Rattle.std.specs.Prelude.{◌==◌, nat_lt, if◌then◌else◌, IsTrue, slice_index_or}
 use Rattle.std.proofs.Math.Nat.{div-div-eq-div-mul, div-lt_iff_lt-mul, pow-suc, pow-le-pow_left, pow-le-pow_right}
 use Rattle.std.proofs.lemmas.Bool.{le-ltb, lt-ltb, ne_eqb}
 use Rattle.std.proofs.lemmas.List.{get_or_default}
@@ -12,15 +12,10 @@ use Rattle.qx_nodes.specs.BlockMap.{BlockMap, word}
 use Rattle.qx_nodes.specs.Leaves.{Block, Damage, Hole, Leaf, followed, leaf_under}
 use Rattle.qx_nodes.proofs.ContentLocality.{pow_above}
 use Rattle.qx_nodes.proofs.LeafPaths.{by_one}
-use Rattle.qx_blocks.specs.BlockState.{BlockState, IsConsistent, with_bytes}
-use Rattle.qx_blocks.specs.SlotWrites.{put-same}
+use Rattle.qx_blocks.specs.BlockState.{BlockState, IsConsistent}
 use Rattle.qx_ptree.specs.Altered.{IsReadyLeaf}
 use Rattle.qx_ptree.specs.Trees.{HasLevels, IsReadyPath, block_map, pointer_at, pointer_from}
 use Rattle.qx_ptree.proofs.TakenBlocks.{ready_held}
-
--- a block that gets its own bytes is as it was
-pub with_bytes-same : (m : BlockState) (b : ℕ) → with_bytes m b (m.bytes b) ≡ m
-with_bytes-same m b = λ i. record m { bytes = λ q. put-same m.bytes b q (m.bytes b) refl i }
 
 -- ---- numbers
 
@@ -74,11 +69,6 @@ followed_ready order m p next k ready =
 -- the word of a pointer block on the path, so many levels above the leaves
 abbrev pub word_on : Order → BlockState → ℕ → ℕ → ℕ → ℕ
 word_on order m l p i = word (block_map order m) p (i / per_block m.holdings.size ^ l % per_block m.holdings.size)
-
--- a leaf's path ends at a ready pointer
-pub leaf_under-zero : (order : Order) (m : BlockState) (l p i : ℕ) → IsConsistent m → l ≡ 0 → IsReadyPath order m l p i → (leaf_under (block_map order m) l p i ≡ Block p) × IsTrue (m.holdings.ready p)
-leaf_under-zero order m zero p i k is path = (followed_ready order m p (λ b. Block b) k path, path)
-leaf_under-zero order m (suc l) p i k is path = absurd (omega arith)
 
 -- the first block of a ready path is ready, and so is the path below it
 pub path_below : (order : Order) (m : BlockState) (l p i : ℕ) → (l ≡ 0 → ⊥) → IsReadyPath order m l p i → IsTrue (m.holdings.ready p) × IsReadyPath order m (l - 1) (word_on order m (l - 1) p i) i

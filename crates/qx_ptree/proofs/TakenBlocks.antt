@@ -1,18 +1,18 @@
 -- Calls that take blocks and change no others, one after another.
-use Rattle.std.proofs.Common.{◌≡◌, ℕ, ◌+◌, ◌-◌, ◌<◌, inl, inr, [], ◌∷◌, ◌++◌, List, length, refl, sym, ◌∙◌, ap, subst, arith}
-use Rattle.std.specs.Prelude.{true, false, ◌||◌, IsTrue, Contains, replicate}
+use Rattle.std.proofs.Common.{◌≡◌, ℕ, ◌<◌, inl, inr, [], ◌∷◌, ◌++◌, List, refl, sym, ◌∙◌, ap, subst, arith}
+use Rattle.std.specs.Prelude.{true, false, IsTrue, replicate}
 use Rattle.std.proofs.Math.Bool.{or-false}
 use Rattle.std.proofs.lemmas.Bool.{or_cases}
-use Rattle.std.proofs.lemmas.List.{length-append}
-use Rattle.qx_geom.specs.Lists.{Distinct, is_in}
+use Rattle.std.proofs.lemmas.List.{append-nil, length-append}
+use Rattle.qx_geom.specs.Lists.{is_in}
 use Rattle.qx_geom.proofs.Truths.{not_so, or_left, true_or_false}
 use Rattle.qx_geom.proofs.Members.{in_append_cases, in_cases}
 use Rattle.qx_geom.proofs.DistinctElements.{Distinct-append}
 use Rattle.qx_geom.proofs.ImagesAndFilters.{in_Contains}
-use Rattle.qx_blocks.specs.BlockState.{BlockState, IsConsistent, put, with_bytes, with_fresh, with_ready}
+use Rattle.qx_blocks.specs.BlockState.{BlockState, IsConsistent, put, with_bytes, with_fresh}
 use Rattle.qx_blocks.specs.Calls.{Keeps, MakesReady}
 use Rattle.qx_ptree.specs.Takings.{Takes}
-use Rattle.qx_ptree.proofs.ListedBlocks.{differs, either_left, either_right, is_in-append, more_pass, put-or, put-other}
+use Rattle.qx_ptree.proofs.ListedBlocks.{either_left, either_right, more_pass, put-or, put-other}
 
 -- a block that can be written at once is held
 pub ready_held : (m : BlockState) (b : ℕ) → IsConsistent m → IsTrue (m.holdings.ready b) → IsTrue (m.holdings.held b)
@@ -67,6 +67,19 @@ ready-made m n b r = ap (λ h. h.ready b) r.holdings ∙ put-or m.holdings.ready
     in_one : (b : ℕ) → is_in (b ∷ []) b ≡ true
     in_one b = in_Contains (b ∷ []) b (0, omega arith, refl)
 
+-- the one block that nobody held isn't used at all
+fresh_unused : (m : BlockState) (b q : ℕ) → IsConsistent m → m.holdings.held b ≡ false → is_in (b ∷ []) q ≡ true
+    → (m.holdings.held q ≡ false) × ((m.holdings.works q ≡ false) × (m.holdings.private q ≡ false) × (m.holdings.ready q ≡ false))
+fresh_unused m b q k unheld t =
+    let none : m.holdings.held q ≡ false = elim (in_cases b q [] t) [ inl is ↦ ap m.holdings.held (sym is) ∙ unheld | inr rest ↦ absurd (cc rest) ] in (
+      none,
+      (
+        not_so (m.holdings.works q) (λ w. true_or_false (m.holdings.held q) (k.works_held q w) none),
+        not_so (m.holdings.private q) (λ w. true_or_false (m.holdings.held q) (k.works_held q (k.private_works q w)) none),
+        not_so (m.holdings.ready q) (λ r. true_or_false (m.holdings.held q) (ready_held m q k r) none),
+      ),
+    )
+
 -- a block is taken, which is then written, maybe
 pub Takes-one : (m n : BlockState) (b : ℕ) (bytes : List ℕ) → IsConsistent m → m.holdings.held b ≡ false → 0 < m.holdings.free
     → n.holdings ≡ (with_fresh m b).holdings → (IsTrue n.tells → n ≡ with_bytes (with_fresh m b) b bytes)
@@ -78,8 +91,8 @@ Takes-one m n b bytes k unheld some holdings told ready = record {
   works = λ q. ap (λ h. h.works q) holdings ∙ put-or m.holdings.works b q;
   private = λ q. ap (λ h. h.private q) holdings ∙ put-or m.holdings.private b q;
   ready = λ q t. ap (λ h. h.ready q) holdings ∙ put-or m.holdings.ready b q ∙ t;
-  unheld = λ q t. no_holder q t;
-  unused = λ q t. (no_worker q t, no_private q t, not_so (m.holdings.ready q) (λ r. true_or_false (m.holdings.held q) (ready_held m q k r) (no_holder q t)));
+  unheld = λ q t. (fresh_unused m b q k unheld t).0;
+  unused = λ q t. (fresh_unused m b q k unheld t).1;
   distinct = (λ c. absurd (omega (arith, c.1)), tt);
   free = omega (arith, ap (λ h. h.free) holdings);
   ready_bytes = ready;
@@ -87,12 +100,6 @@ Takes-one m n b bytes k unheld some holdings told ready = record {
   told_bytes = λ t q held. ap (λ s. s.bytes q) (told t) ∙ apart_twice q (λ e. true_or_false (m.holdings.held b) (ap m.holdings.held (sym e) ∙ held) unheld);
   told_history = λ t. ap (λ s. s.history) (told t);
 } where
-  no_holder : (q : ℕ) → is_in (b ∷ []) q ≡ true → m.holdings.held q ≡ false
-  no_holder q t = elim (in_cases b q [] t) [ inl is ↦ ap m.holdings.held (sym is) ∙ unheld | inr rest ↦ absurd (cc rest) ]
-  no_worker : (q : ℕ) → is_in (b ∷ []) q ≡ true → m.holdings.works q ≡ false
-  no_worker q t = not_so (m.holdings.works q) (λ w. true_or_false (m.holdings.held q) (k.works_held q w) (no_holder q t))
-  no_private : (q : ℕ) → is_in (b ∷ []) q ≡ true → m.holdings.private q ≡ false
-  no_private q t = not_so (m.holdings.private q) (λ w. true_or_false (m.holdings.held q) (k.works_held q (k.private_works q w)) (no_holder q t))
   apart_twice : (q : ℕ) → (q ≡ b → ⊥) → put (put m.bytes b (replicate m.holdings.size 0)) b bytes q ≡ m.bytes q
   apart_twice q ne = put-other (put m.bytes b (replicate m.holdings.size 0)) b q bytes ne ∙ put-other m.bytes b q (replicate m.holdings.size 0) ne
 
@@ -124,12 +131,8 @@ Takes-fresh m b k unheld some = record {
   works = put-or m.holdings.works b;
   private = put-or m.holdings.private b;
   ready = λ q t. put-or m.holdings.ready b q ∙ t;
-  unheld = no_holder;
-  unused = λ q t. (
-    not_so (m.holdings.works q) (λ w. true_or_false (m.holdings.held q) (k.works_held q w) (no_holder q t)),
-    not_so (m.holdings.private q) (λ w. true_or_false (m.holdings.held q) (k.works_held q (k.private_works q w)) (no_holder q t)),
-    not_so (m.holdings.ready q) (λ r. true_or_false (m.holdings.held q) (ready_held m q k r) (no_holder q t))
-  );
+  unheld = λ q t. (fresh_unused m b q k unheld t).0;
+  unused = λ q t. (fresh_unused m b q k unheld t).1;
   distinct = (λ c. absurd (omega (arith, c.1)), tt);
   free = omega arith;
   ready_bytes = λ q r. other q (ready_held m q k r);
@@ -137,8 +140,6 @@ Takes-fresh m b k unheld some = record {
   told_bytes = λ t q held. other q held;
   told_history = λ t. refl;
 } where
-  no_holder : (q : ℕ) → is_in (b ∷ []) q ≡ true → m.holdings.held q ≡ false
-  no_holder q t = elim (in_cases b q [] t) [ inl is ↦ ap m.holdings.held (sym is) ∙ unheld | inr rest ↦ absurd (cc rest) ]
   other : (q : ℕ) → IsTrue (m.holdings.held q) → put m.bytes b (replicate m.holdings.size 0) q ≡ m.bytes q
   other q held = put-other m.bytes b q (replicate m.holdings.size 0) (λ e. true_or_false (m.holdings.held b) (ap m.holdings.held (sym e) ∙ held) unheld)
 
@@ -166,12 +167,12 @@ Takes-then fs gs m n o f g = record {
     | inr second ↦ (
       or_left (m.holdings.works q) (is_in fs q) (sym (f.works q) ∙ (g.unused q second).0),
       or_left (m.holdings.private q) (is_in fs q) (sym (f.private q) ∙ (g.unused q second).1),
-      not_so (m.holdings.ready q) (λ r. true_or_false (n.holdings.ready q) (f.ready q (either_left (m.holdings.ready q) (is_in fs q) r)) (g.unused q second).2)
+      not_so (m.holdings.ready q) (λ r. true_or_false (n.holdings.ready q) (f.ready q (either_left (m.holdings.ready q) (is_in fs q) r)) (g.unused q second).2),
     )
   ];
   distinct = Distinct-append fs gs f.distinct g.distinct (λ x a b. true_or_false (n.holdings.held x)
-    (f.held x ∙ either_right (m.holdings.held x) (is_in fs x) (in_Contains fs x a))
-    (g.unheld x (in_Contains gs x b)));
+      (f.held x ∙ either_right (m.holdings.held x) (is_in fs x) (in_Contains fs x a))
+      (g.unheld x (in_Contains gs x b)));
   free = omega (arith, f.free, g.free, length-append fs gs);
   ready_bytes = λ q r. g.ready_bytes q (f.ready q (either_left (m.holdings.ready q) (is_in fs q) r)) ∙ f.ready_bytes q r;
   told_before = λ t. f.told_before (g.told_before t);
@@ -180,3 +181,11 @@ Takes-then fs gs m n o f g = record {
 } where
   later : (q : ℕ) → IsTrue (n.holdings.ready q) → IsTrue (o.holdings.ready q)
   later q r = g.ready q (either_left (n.holdings.ready q) (is_in gs q) r)
+
+-- a call that takes nothing, and one that takes blocks
+pub Takes-after : (fresh : List ℕ) (m n o : BlockState) → Keeps m n → Takes fresh n o → Takes fresh m o
+Takes-after fresh m n o k g = Takes-then [] fresh m n o (Takes-none m n k) g
+
+-- a call that takes blocks, and one that takes nothing
+pub Takes-before : (fresh : List ℕ) (m n o : BlockState) → Takes fresh m n → Keeps n o → Takes fresh m o
+Takes-before fresh m n o f k = subst (λ (l : List ℕ). Takes l m o) (append-nil fresh) (Takes-then fresh [] m n o f (Takes-none n o k))

@@ -1,5 +1,5 @@
 -- Edits that are written one after another.
-use Rattle.std.proofs.Common.{◌≡◌, ℕ, suc, ◌+◌, ◌<◌, ◌≤◌, [], ◌∷◌, List, length, get_or, drop, drop-cons, map, refl, sym, ◌∙◌, ap, subst, add-one}
+use Rattle.std.proofs.Common.{◌≡◌, ℕ, suc, ◌+◌, ◌<◌, ◌≤◌, List, length, get_or, drop, drop-cons, map, sym, ◌∙◌, ap, subst, add-one}
 use Rattle.std.specs.Prelude.{true, Contains, IsTrue}
 use Rattle.std.proofs.lemmas.List.{drop_all, get_or-map, length-map}
 use Rattle.qx_geom.specs.Lists.{is_in}

@@ -240,13 +240,13 @@ fn written_leaf<B: Blocks>(blocks: &mut B, work: &mut Work, pointer: u32) -> Res
         return work.take(blocks);
     }
     // A block that other trees hold stays as it is.
-    if blocks.is_private(pointer) {
-        work.keep(blocks, pointer)?;
-        return Ok(pointer);
+    if !blocks.is_private(pointer) {
+        let b = work.take_copy(blocks, pointer)?;
+        work.give_up(pointer)?;
+        return Ok(b);
     }
-    let b = work.take_copy(blocks, pointer)?;
-    work.give_up(pointer)?;
-    Ok(b)
+    work.keep(blocks, pointer)?;
+    Ok(pointer)
 }
 
 // Prepares a pointer block that is to have these pointers, and answers the pointer to it.
@@ -285,7 +285,6 @@ fn prepare_block<B: Blocks>(
         edit_block(alloc, blocks, order, work, pointer, pointers)?;
         return Ok(pointer);
     }
-    // A block that other trees hold stays as it is.
     let b = take_filled(blocks, order, work, pointers)?;
     work.give_up(pointer)?;
     Ok(b)
@@ -326,10 +325,9 @@ fn edit_block<B: Blocks>(
     requires long { length pointers.now ≡ per_block (B.state blocks.old).holdings.size }
     ensures ready { OnOk result (MakesReady pointer (B.state blocks.old) (B.state blocks.new)) }
     ensures noted { OnOk result (work.new ≡ record work.old {
-        edits = work.old.edits ++ (record { block = pointer; bytes = pointer_bytes order pointers.now }) ∷ [];
-        kept = work.old.kept ++ pointer ∷ [];
+      edits = work.old.edits ++ (record { block = pointer; bytes = pointer_bytes order pointers.now }) ∷ [];
+      kept = work.old.kept ++ pointer ∷ [];
     }) }
-    ensures size { length (pointer_bytes order pointers.now) ≡ (B.state blocks.new).holdings.size }
 
     ensures err { OnErr result (Adds (B.state blocks.old) (B.state blocks.new) work.old work.new) }
     ensures aside { B.Blocks.aside blocks.new ≡ B.Blocks.aside blocks.old }

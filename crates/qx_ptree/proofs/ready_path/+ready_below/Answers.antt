@@ -1,7 +1,6 @@
-use Rattle.std.proofs.Common.{rules, arith, ◌≡◌, ◌-◌, ◌∙◌, sym, ap}
-use Rattle.qx_nodes.specs.Leaves.{Block, leaf_under}
-use Rattle.qx_ptree.specs.Trees.{IsReadyPath, block_map}
-use Rattle.qx_ptree.proofs.ReadyPaths.{leaf_under-ready, leaf_under-zero, path_below, power_above, power_fits, word_on}
+use Rattle.std.proofs.Common.{rules, arith, ◌≡◌, ◌-◌, ◌∙◌}
+use Rattle.qx_ptree.specs.Trees.{IsReadyPath}
+use Rattle.qx_ptree.proofs.ReadyPaths.{leaf_under-ready, path_below, power_above, power_fits, word_on}
 use Rattle.qx_ptree.proofs.ready_path.+ready_below.Goals as goal
 
 pub pow-requires : goal.pow-requires

@@ -1,4 +1,4 @@
-use Rattle.std.proofs.Common.{◌≡◌, ◌∙◌, ap, length, arith, rules, ◌^◌, ◌/◌, ◌<◌}
+use Rattle.std.proofs.Common.{◌≡◌, ap, length, rules, ◌^◌, ◌/◌}
 use Rattle.qx_geom.specs.Pointer.{per_block}
 use Rattle.qx_ptree.proofs.ReadyPaths.{power_fits, top_path, top_end}
 use Rattle.qx_ptree.proofs.ready_path.ready_leaf.Goals as goal
