@@ -1,4 +1,4 @@
-use Rattle.std.proofs.Common.{◌≡◌, ◌≤◌, ◌+◌, ◌-◌, ◌*◌, IsTrue, slice_index}
+use Rattle.std.proofs.Common.{◌≡◌, ◌≤◌, ◌+◌, ◌-◌, ◌*◌, IsTrue, length, slice_index}
 use Rattle.qx_geom.specs.Pointer.{per_block}
 use Rattle.qx_ptree.specs.Building.{BuildsOnto}
 use Rattle.qx_ptree.specs.Parts.{part_of}
@@ -12,6 +12,8 @@ decreases-prepare_at g l = l.level
 -- the words so far are built, and it is known what they change
 abbrev pub invariant-loop-w : goal.invariant-loop-w
 invariant-loop-w g l = record {
+  told : IsTrue (g.B.Blocks.state l.blocks).tells → IsTrue (g.B.Blocks.state l.initial.blocks).tells;
+  long : length l.new ≡ 1024;
   built : BuildsOnto (g.B.Blocks.state l.fn.blocks) (g.B.Blocks.state l.blocks) l.fn.work l.work l.fn.plan
       (record { level = l.fn.level - 1; first = l.fn.index * per_block (g.B.Blocks.state l.fn.blocks).holdings.size; count = l.w })
       (λ j. slice_index l.new (j - l.fn.index * per_block (g.B.Blocks.state l.fn.blocks).holdings.size));
