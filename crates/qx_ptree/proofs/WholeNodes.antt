@@ -18,7 +18,7 @@ use Rattle.qx_ptree.specs.WorkState.{WorkState, and_then, no_work}
 use Rattle.qx_ptree.proofs.AddedWork.{adds_none, adds_released, adds_then, and_then-assoc, and_then-released}
 use Rattle.qx_ptree.proofs.BuiltRows.{builds_none}
 use Rattle.qx_ptree.proofs.BuiltSteps.{row_step}
-use Rattle.qx_ptree.proofs.CarriedPlans.{pointers_same}
+use Rattle.qx_ptree.proofs.CarriedPlans.{pointers_after}
 use Rattle.qx_ptree.proofs.KeptPlans.{kept_again, told_before}
 use Rattle.qx_ptree.proofs.PlannedPointers.{IsToldPlan}
 use Rattle.qx_ptree.proofs.ReachedRows.{fresh_stay, reaches_behind, reaches_empty, reaches_later, reaches_next_top, reaches_sized}
@@ -85,7 +85,7 @@ underway_more m n o a b c plan level j p pointers s long met s_n low u built rea
 
 -- the pointers of the old node are the same
 pub later_pointer : (f : List ℕ) (m n : BlockState) (plan : Plan) (k j : ℕ) → IsConsistent m → length plan.node.pointers ≡ 16 → IsPlan m plan → Takes f m n → IsTrue n.tells → planned_pointer plan n k j ≡ planned_pointer plan m k j
-later_pointer f m n plan k j s long met taken told = pointers_same f m n plan (record { consistent = s; long = long; met = met; told = taken.told_before told }) taken told k j
+later_pointer f m n plan k j s long met taken told = pointers_after f m n plan (record { consistent = s; long = long; met = met; told = taken.told_before told }) taken told k j
 
 -- ---- all of it
 

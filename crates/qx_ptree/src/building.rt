@@ -1,5 +1,5 @@
 //! A change is prepared: its fresh blocks are taken and filled, and nothing that the node holds is written.
-ghost use Rattle.std.specs.Prelude.{◌≡◌, ◌≤◌, ◌<◌, ◌+◌, ◌-◌, ◌*◌, ◌⊎◌, ℕ, ◌∷◌, ◌++◌, [], true, false, length, IfOk, OnOk, OnErr, IsTrue, slice_index};
+ghost use Rattle.std.specs.Prelude.{◌≡◌, ◌≤◌, ◌<◌, ◌+◌, ◌-◌, ◌*◌, ◌^◌, ◌⊎◌, ℕ, ◌∷◌, ◌++◌, [], true, false, length, IfOk, OnOk, OnErr, IsTrue, slice_index};
 ghost use Rattle.qx_geom.specs.Layout.{levels_for};
 ghost use Rattle.qx_geom.specs.Lists.{Distinct};
 ghost use Rattle.qx_geom.specs.Pointer.{absent, per_block};
@@ -171,8 +171,58 @@ fn prepare_at<B: Blocks>(
     ensures aside { B.Blocks.aside blocks.new ≡ B.Blocks.aside blocks.old }
     ensures cause { HasStopCause (B.faults blocks.old) (B.faults blocks.new) result }
 {
-    let _ = blocks.size();
-    Err(Stop::NoMemory)
+    let pointer = leading(blocks, pointer);
+    match alike_fate(blocks, plan, level, index) {
+        Some(Fate::Stays) => {
+            return Ok(Below {
+                pointer,
+                changed: false,
+                present: pointer != ABSENT,
+            });
+        }
+        Some(Fate::Goes) => {
+            give_up_below(blocks, plan, work, level, index, pointer)?;
+            return Ok(Below {
+                pointer: ABSENT,
+                changed: pointer != ABSENT,
+                present: false,
+            });
+        }
+        _ => {}
+    }
+    if level == 0 {
+        return prepare_leaf(blocks, plan, work, index, pointer);
+    }
+    let words = blocks.size() / 4;
+    let mut old = [ABSENT; 1024];
+    pointers_below(blocks, plan, level, index, pointer, &mut old[0..words])?;
+    let mut new = [ABSENT; 1024];
+    let mut changed = false;
+    let mut present = false;
+    for (w, child) in old[0..words].iter().enumerate() {
+        let at = index * words as u64 + w as u64;
+        let below = prepare_at(alloc, blocks, plan, work, level - 1, at, *child)?;
+        new[w] = below.pointer;
+        changed = changed || below.changed;
+        present = present || below.present;
+    }
+    let pointer = prepare_block(
+        alloc,
+        blocks,
+        plan.order,
+        work,
+        pointer,
+        &new[0..words],
+        changed,
+        present,
+    )?;
+    // What was prepared stands on consistent blocks, which `size` says.
+    let _size = blocks.size();
+    Ok(Below {
+        pointer,
+        changed,
+        present,
+    })
 }
 
 // Prepares a leaf.
@@ -256,6 +306,7 @@ fn prepare_block<B: Blocks>(
 ) -> Result<u32, Stop>
     requires leads { ¬ (pointer ≡ absent) → IsTrue ((B.state blocks.old).holdings.works pointer) }
     requires long { length pointers.now ≡ per_block (B.state blocks.old).holdings.size }
+    ensures fit { (v : ℕ) → slice_index pointers.now v < 2 ^ 32 }
     ensures written { IfOk result (λ b. WritesBlock order (B.state blocks.old) (B.state blocks.new) work.old work.new pointer pointers.now changed present b) }
 
     ensures err { OnErr result (Adds (B.state blocks.old) (B.state blocks.new) work.old work.new) }
