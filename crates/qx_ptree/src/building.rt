@@ -202,6 +202,8 @@ fn prepare_at<B: Blocks>(
         changed,
         present,
     )?;
+    // What was prepared stands on consistent blocks, which `size` says.
+    let _size = blocks.size();
     Ok(Below {
         pointer,
         changed,
