@@ -15,7 +15,7 @@ use Rattle.qx_ptree.specs.declared.fresh_blocks.Plan.{Plan}
 use Rattle.qx_ptree.specs.Building.{Row, new_pointer, pointer_down}
 use Rattle.qx_ptree.specs.Fates.{is_written}
 use Rattle.qx_ptree.specs.Reaching.{IsOwnPosition, Reaches, ShowsOwn, own_blocks}
-use Rattle.qx_ptree.specs.ReadyLeaves.{IsAbove, IsReadyApart, IsWrittenBy, OwnAsLeft}
+use Rattle.qx_ptree.specs.ReadyLeaves.{IsAbove, IsReadyApart, IsWrittenBy, OwnAsLeft, StandIn}
 use Rattle.qx_ptree.specs.Takings.{LeavesOthers, Takes}
 use Rattle.qx_ptree.specs.Trees.{block_map, pointer_at, pointer_from}
 use Rattle.qx_ptree.specs.WorkState.{EditState, Preparation, WorkState, all_blocks, blocks_of, committed, with_edits}
@@ -24,7 +24,6 @@ use Rattle.qx_ptree.proofs.EditedBlocks.{edits_give, edits_holdings}
 use Rattle.qx_ptree.proofs.ListedBlocks.{either_right}
 use Rattle.qx_ptree.proofs.OtherBlocks.{LeavesOthers-with_edits, LeavesOthers-without_all}
 use Rattle.qx_ptree.proofs.PointersByPosition.{at_from}
-use Rattle.qx_ptree.proofs.StayingLeaves.{StandIn}
 
 -- ---- the node's pointers
 

@@ -8,16 +8,12 @@ use Rattle.qx_geom.specs.Lists.{is_in}
 use Rattle.qx_geom.specs.Pointer.{absent, per_block}
 use Rattle.qx_nodes.specs.BlockMap.{word}
 use Rattle.qx_blocks.specs.BlockState.{BlockState}
-use Rattle.qx_ptree.specs.ReadyLeaves.{IsAbove, IsReadyApart, OwnAsLeft}
+use Rattle.qx_ptree.specs.ReadyLeaves.{IsAbove, IsReadyApart, OwnAsLeft, StandIn}
 use Rattle.qx_ptree.specs.Takings.{LeavesOthers}
 use Rattle.qx_ptree.specs.Trees.{block_map, pointer_at, pointer_from}
 use Rattle.qx_ptree.specs.WorkState.{Preparation, blocks_of}
 use Rattle.qx_ptree.proofs.OwnPositions.{above-up}
 use Rattle.qx_ptree.proofs.PointersByPosition.{at_from}
-
--- the block at each of some leaves, and each above one, is one of these
-pub record StandIn (order : Order) (m : BlockState) (node : Root) (leaves : ℕ → Type 0) (blocks : List ℕ) : Type 0 where
-  pub own : (k j : ℕ) → k ≤ node.levels → IsAbove m.holdings.size leaves k j → is_in blocks (pointer_at (block_map order m) node k j) ≡ true
 
 -- some blocks are as they were, and where they were ready they are
 pub record StayReady (m n : BlockState) (blocks : List ℕ) : Type 0 where

@@ -1,5 +1,5 @@
 -- Leaves that can be written at once, whether bytes are told or not.
-use Rattle.std.specs.Prelude.{◌≡◌, ℕ, ◌≤◌, true, IsTrue}
+use Rattle.std.specs.Prelude.{◌≡◌, ℕ, ◌≤◌, true, List, IsTrue}
 use Rattle.qx_fields.specs.declared.order.Order.{Order}
 use Rattle.qx_geom.specs.declared.root.Root.{Root}
 use Rattle.qx_geom.specs.Lists.{is_in}
@@ -26,6 +26,10 @@ pub record IsReadyApart (order : Order) (m : BlockState) (node : Root) (leaves :
   pub ready : (k j : ℕ) → k ≤ node.levels → IsAbove m.holdings.size leaves k j → IsTrue (m.holdings.ready (pointer_at (block_map order m) node k j))
   pub apart : (k j h i : ℕ) → k ≤ node.levels → h ≤ node.levels → IsAbove m.holdings.size leaves k j → IsAbove m.holdings.size leaves h i
       → pointer_at (block_map order m) node k j ≡ pointer_at (block_map order m) node h i → (k ≡ h) × (j ≡ i)
+
+-- the block at each of some leaves, and each above one, is one of these
+pub record StandIn (order : Order) (m : BlockState) (node : Root) (leaves : ℕ → Type 0) (blocks : List ℕ) : Type 0 where
+  pub own : (k j : ℕ) → k ≤ node.levels → IsAbove m.holdings.size leaves k j → is_in blocks (pointer_at (block_map order m) node k j) ≡ true
 
 -- the blocks of a change that waits for its commit are as they were
 pub record OwnAsLeft (p : Preparation) (m n : BlockState) : Type 0 where

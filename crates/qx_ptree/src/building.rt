@@ -13,10 +13,10 @@ ghost use Rattle.qx_ptree.specs.Fates.{IsChange, leaves_after};
 ghost use Rattle.qx_ptree.specs.Parts.{part_of};
 ghost use Rattle.qx_ptree.specs.Plans.{InReach, IsPlan, alteration_in, planned_pointer};
 ghost use Rattle.qx_ptree.specs.Reaching.{IsMarked, ReachesOnto};
-ghost use Rattle.qx_ptree.specs.ReadyLeaves.{IsReadyApart, IsWrittenBy, OwnAsLeft};
+ghost use Rattle.qx_ptree.specs.ReadyLeaves.{IsReadyApart, IsWrittenBy, OwnAsLeft, StandIn};
 ghost use Rattle.qx_ptree.specs.Takings.{Adds, Takes};
 ghost use Rattle.qx_ptree.specs.Trees.{HasLevels, IsRegular, IsWorking};
-ghost use Rattle.qx_ptree.specs.WorkState.{CanCommit, all_blocks, committed};
+ghost use Rattle.qx_ptree.specs.WorkState.{CanCommit, all_blocks, blocks_of, committed};
 
 use crate::change::{Change, Fate, leaf_fate};
 use crate::fresh_blocks::{Plan, alike_fate};
@@ -60,6 +60,7 @@ pub fn prepare<B: Blocks>(
 
     // What is written is ready once it is committed, also where bytes aren't told.
     ensures written { IfOk result (λ p. (m : _) → OwnAsLeft p (B.state blocks.new) m → IsReadyApart order (committed m p) p.root (IsWrittenBy change.now)) }
+    ensures own { IfOk result (λ p. (m : _) → OwnAsLeft p (B.state blocks.new) m → StandIn order (committed m p) p.root (IsWrittenBy change.now) (blocks_of p)) }
 
     ensures prepared { IfOk result (λ p. IsTrue (B.state blocks.new).tells → IsPrepared order (B.state blocks.old) (B.state blocks.new) p) }
 
