@@ -14,13 +14,13 @@ use Rattle.qx_ptree.specs.BuiltNode.{BuildsNode}
 use Rattle.qx_ptree.specs.Fates.{leaves_after}
 use Rattle.qx_ptree.specs.Plans.{IsPlan}
 use Rattle.qx_ptree.specs.Reaching.{ReachesOnto}
-use Rattle.qx_ptree.specs.ReadyLeaves.{IsReadyApart, IsWrittenBy, OwnAsLeft}
+use Rattle.qx_ptree.specs.ReadyLeaves.{IsReadyApart, IsWrittenBy, OwnAsLeft, StandIn}
 use Rattle.qx_ptree.specs.Takings.{Takes}
 use Rattle.qx_ptree.specs.Trees.{HasLevels}
-use Rattle.qx_ptree.specs.WorkState.{CanCommit, CanEdit, Preparation, WorkState, all_blocks, and_then, committed, no_work}
+use Rattle.qx_ptree.specs.WorkState.{CanCommit, CanEdit, Preparation, WorkState, all_blocks, and_then, committed, no_work, blocks_of}
 use Rattle.qx_ptree.proofs.PointerCounts.{size_positive, words_positive}
 use Rattle.qx_ptree.proofs.PreparedNodes.{added-is-prepared, added-takes}
-use Rattle.qx_ptree.proofs.ReachedSteps.{ready_prepared}
+use Rattle.qx_ptree.proofs.ReachedSteps.{ready_prepared, stand_prepared}
 use Rattle.qx_ptree.proofs.WholeNeed.{leaves-reached, new-levels}
 
 -- a size lies below as many leaves as it takes
@@ -58,6 +58,12 @@ module _ (m n : BlockState) (plan : Plan) (before work : WorkState) (root : Root
   pub whole-written : Distinct (all_blocks work) → (now : BlockState) → OwnAsLeft (whole_of plan root work) n now → IsReadyApart plan.order (committed now (whole_of plan root work)) root (IsWrittenBy plan.change)
   whole-written distinct now left =
       ready_prepared m n now plan (whole_of plan root work) (size_positive m.holdings.size s.size) (words_positive m.holdings.size s.size) met.change refl b.long b.levels distinct
+      (subst (λ w. ReachesOnto m n w work plan (record { level = root.levels; first = 0; count = 16 }) (slice_index root.pointers)) none b.reaches) left
+
+  -- and their blocks are those of the change
+  pub whole-own : Distinct (all_blocks work) → (now : BlockState) → OwnAsLeft (whole_of plan root work) n now → StandIn plan.order (committed now (whole_of plan root work)) root (IsWrittenBy plan.change) (blocks_of (whole_of plan root work))
+  whole-own distinct now left =
+      stand_prepared m n now plan (whole_of plan root work) (size_positive m.holdings.size s.size) (words_positive m.holdings.size s.size) met.change refl b.long b.levels distinct
       (subst (λ w. ReachesOnto m n w work plan (record { level = root.levels; first = 0; count = 16 }) (slice_index root.pointers)) none b.reaches) left
 
   -- and where bytes are told it is prepared

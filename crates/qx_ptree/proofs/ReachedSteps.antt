@@ -18,15 +18,15 @@ use Rattle.qx_ptree.specs.declared.fresh_blocks.Plan.{Plan}
 use Rattle.qx_ptree.specs.Building.{GivesUp, LiesUnder, Row, WritesBlock, WritesLeaf, one_block, with_released}
 use Rattle.qx_ptree.specs.Fates.{IsChange, fate_of, is_gone, is_written, leaves_after}
 use Rattle.qx_ptree.specs.Reaching.{IsMarked, IsOwnPosition, Reaches, ReachesOnto}
-use Rattle.qx_ptree.specs.ReadyLeaves.{IsAbove, IsReadyApart, IsWrittenBy, OwnAsLeft}
+use Rattle.qx_ptree.specs.ReadyLeaves.{IsAbove, IsReadyApart, IsWrittenBy, OwnAsLeft, StandIn}
 use Rattle.qx_ptree.specs.Takings.{Adds, Takes}
-use Rattle.qx_ptree.specs.WorkState.{Preparation, WorkState, all_blocks, committed, no_work}
+use Rattle.qx_ptree.specs.WorkState.{Preparation, WorkState, all_blocks, committed, no_work, blocks_of}
 use Rattle.qx_ptree.proofs.AddedWork.{CanEdit-none, adds_lost, adds_none, adds_then, nothing_in}
 use Rattle.qx_ptree.proofs.ListedBlocks.{either_right}
 use Rattle.qx_ptree.proofs.OwnPositions.{above-up}
 use Rattle.qx_ptree.proofs.ReachedBlocks.{block_there, reaches_block_at, taken_there}
 use Rattle.qx_ptree.proofs.ReachedRows.{fresh_stay, own_leaf, reaches_later, reaches_leaf, reaches_next, reaches_next_top, reaches_no_work, reaches_nothing, reaches_sized}
-use Rattle.qx_ptree.proofs.ReadyNodes.{IsReached, ready_node}
+use Rattle.qx_ptree.proofs.ReadyNodes.{IsReached, ready_node, stand_node}
 use Rattle.qx_ptree.proofs.UnderRows.{none_under, row_more, row_own}
 use Rattle.qx_ptree.proofs.WholeNeed.{leaves-reached}
 
@@ -214,3 +214,9 @@ pub ready_prepared : (m n now : BlockState) (plan : Plan) (p : Preparation) → 
     → p.root.levels ≡ levels_for m.holdings.size (leaves_after m.holdings.size plan.change) → Distinct (all_blocks p.work)
     → ReachesOnto m n no_work p.work plan (record { level = p.root.levels; first = 0; count = 16 }) (slice_index p.root.pointers) → OwnAsLeft p n now → IsReadyApart plan.order (committed now p) p.root (IsWrittenBy p.change)
 ready_prepared m n now plan p some pos change changes long levels distinct r left = ready_node m n now plan p (reached_prepared m n plan p some pos change changes long levels distinct r) left
+
+-- and their blocks are those of the change
+pub stand_prepared : (m n now : BlockState) (plan : Plan) (p : Preparation) → 0 < m.holdings.size → 0 < per_block m.holdings.size → IsChange m.holdings.size plan.change → p.change ≡ plan.change → length p.root.pointers ≡ 16
+    → p.root.levels ≡ levels_for m.holdings.size (leaves_after m.holdings.size plan.change) → Distinct (all_blocks p.work)
+    → ReachesOnto m n no_work p.work plan (record { level = p.root.levels; first = 0; count = 16 }) (slice_index p.root.pointers) → OwnAsLeft p n now → StandIn plan.order (committed now p) p.root (IsWrittenBy p.change) (blocks_of p)
+stand_prepared m n now plan p some pos change changes long levels distinct r left = stand_node m n now plan p (reached_prepared m n plan p some pos change changes long levels distinct r) left
