@@ -125,8 +125,8 @@ module _ (f : List ℕ) (m n : BlockState) (plan : Plan) (p : IsToldPlan m plan)
       ]
 
   -- the pointers by position
-  pointers_same : (k j : ℕ) → planned_pointer plan n k j ≡ planned_pointer plan m k j
-  pointers_same k j = ap (λ x. if nat_lt plan.node.levels k then absent else x) (from_same (plan.node.levels - k) j (omega arith))
+  pub pointers_after : (k j : ℕ) → planned_pointer plan n k j ≡ planned_pointer plan m k j
+  pointers_after k j = ap (λ x. if nat_lt plan.node.levels k then absent else x) (from_same (plan.node.levels - k) j (omega arith))
 
   -- what is met
   visits_same : visits_of (block_map plan.order n) plan.node ≡ visits_of (block_map plan.order m) plan.node
@@ -140,7 +140,7 @@ module _ (f : List ℕ) (m n : BlockState) (plan : Plan) (p : IsToldPlan m plan)
 
   -- a pointer of the node is private where it was
   private_same : IsConsistent n → (k j : ℕ) → n.holdings.private (planned_pointer plan n k j) ≡ m.holdings.private (planned_pointer plan m k j)
-  private_same s k j = ap n.holdings.private (pointers_same k j) ∙ elim (cases_eq (planned_pointer plan m k j) absent) [
+  private_same s k j = ap n.holdings.private (pointers_after k j) ∙ elim (cases_eq (planned_pointer plan m k j) absent) [
     | inl none ↦ subst (λ q. n.holdings.private q ≡ m.holdings.private q) (sym none) (absent_shared n s ∙ sym (absent_shared m p.consistent))
     | inr there ↦ private_after f m n (planned_pointer plan m k j) t (pointer_held m plan k j p there)
   ]
@@ -164,17 +164,17 @@ module _ (f : List ℕ) (m n : BlockState) (plan : Plan) (p : IsToldPlan m plan)
       let words_new : 0 < per_block n.holdings.size = subst (λ s. 0 < per_block s) (sym t.size) words in
       let low : AllNumbers old plan.node = planned_numbers m plan p in
       let low_new : AllNumbers new plan.node = λ k i h there.
-      subst (λ q. q < n.holdings.count) (sym (pointers_same k i)) (subst (λ c. planned_pointer plan m k i < c) (sym t.count) (low k i h (λ e. there (pointers_same k i ∙ e)))) in
+      subst (λ q. q < n.holdings.count) (sym (pointers_after k i)) (subst (λ c. planned_pointer plan m k i < c) (sym t.count) (low k i h (λ e. there (pointers_after k i ∙ e)))) in
       elim (cases_eq (planned_pointer plan m 0 j) absent) [
-        | inl none ↦ bytes_of_hole new plan.node j words_new low_new (pointers_same 0 j ∙ none) ∙ ap (λ s. replicate s 0) t.size ∙ sym (bytes_of_hole old plan.node j words low none)
+        | inl none ↦ bytes_of_hole new plan.node j words_new low_new (pointers_after 0 j ∙ none) ∙ ap (λ s. replicate s 0) t.size ∙ sym (bytes_of_hole old plan.node j words low none)
         | inr there ↦
-            bytes_by_pointer new plan.node j words_new low_new (λ e. there (sym (pointers_same 0 j) ∙ e)) ∙ ap n.bytes (pointers_same 0 j)
+            bytes_by_pointer new plan.node j words_new low_new (λ e. there (sym (pointers_after 0 j) ∙ e)) ∙ ap n.bytes (pointers_after 0 j)
             ∙ pointer_bytes_same 0 j there ∙ sym (bytes_by_pointer old plan.node j words low there)
       ]
 
   -- all of it
   pub carried : IsConsistent n → IsCarried m n plan
-  carried s = record { size = t.size; count = t.count; pointers = pointers_same; alteration = alteration_same s; bytes = pointer_bytes_same; leaves = leaves_same }
+  carried s = record { size = t.size; count = t.count; pointers = pointers_after; alteration = alteration_same s; bytes = pointer_bytes_same; leaves = leaves_same }
 
   -- what is met works
   working_after : IsWorking plan.order n plan.node

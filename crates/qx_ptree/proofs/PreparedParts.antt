@@ -1,10 +1,11 @@
 -- What the calls of a preparation add to the work, part by part.
-use Rattle.std.proofs.Common.{◌≡◌, ◌≢◌, ℕ, zero, suc, ◌+◌, ◌*◌, ◌-◌, ◌^◌, ◌<◌, ◌≤◌, ◌⊎◌, inl, inr, List, [], ◌∷◌, ◌++◌, append-nil, length, refl, sym, ◌∙◌, ap, subst, arith}
+use Rattle.std.proofs.Common.{◌≡◌, ◌≢◌, ℕ, zero, suc, ◌+◌, ◌*◌, ◌-◌, ◌^◌, ◌<◌, ◌≤◌, ◌⊎◌, inl, inr, List, [], ◌∷◌, ◌++◌, append-nil, length, set, take, refl, sym, ◌∙◌, ap, subst, arith}
 use Rattle.std.specs.Prelude.{Bool, true, false, not, ◌||◌, ◌==◌, IsTrue, Result, Ok, slice_index}
 use Rattle.std.specs.Int.{div_ceil}
 use Rattle.std.proofs.Math.Nat.{pow-zero}
 use Rattle.std.proofs.Math.Numerals.{sub-one}
 use Rattle.std.proofs.lemmas.Bool.{cases_lt, eq-eqb}
+use Rattle.std.proofs.lemmas.List.{get_or-set_other, get_or-set_same, get_or-take, length-take-le}
 use Rattle.qx_geom.specs.Lists.{is_in}
 use Rattle.qx_geom.specs.Pointer.{absent, per_block}
 use Rattle.qx_geom.specs.Touch.{changed_leaves}
@@ -140,6 +141,18 @@ leaf_onto m n plan index p q before after s long met is fate w = record {
 
 -- ---- whether something changed, or is present, below the words so far
 
+-- no word yet
+pub any_none : (test : ℕ → Bool) → false ≡ any_up_to 0 test
+unfolding any_up_to
+any_none test = refl
+
+-- one of two truths, as it is tested
+pub or_then : (a x r : Bool) → a ≡ true → r ≡ a → r ≡ (a || x)
+or_then a x r first is = is ∙ first ∙ sym (ap (λ b. b || x) first)
+
+pub or_else : (a x r : Bool) → a ≡ false → r ≡ x → r ≡ (a || x)
+or_else a x r first is = is ∙ sym (ap (λ b. b || x) first)
+
 -- one word more
 pub any_more : (test : ℕ → Bool) (w : ℕ) (so_far child both : Bool) → so_far ≡ any_up_to w test → child ≡ test w → both ≡ (so_far || child) → both ≡ any_up_to (w + 1) test
 any_more test w so_far child both is child_is both_is = both_is ∙ (λ i. is i || child_is i) ∙ sym (any_up_to-more w test)
@@ -207,3 +220,25 @@ block_onto m n o before mid after plan (suc l) index p q tops pointers changed p
       (subst (λ k. Builds m n plan a.adds.added (record { level = k; first = index * P; count = P }) tops) (sub-one (suc l)) (a.builds told_n (free_before b.adds.added.fresh n o b.adds.takes free)))
       (subst (λ x. BlockWork plan.order n o x pointers changed present q b.adds.added) (is told_m) b.work);
 }
+
+-- ---- as the loop goes over the words
+
+-- the new pointers so far, with one more
+pub tops_before : (new : List ℕ) (w q first j : ℕ) → first ≤ j → j < first + w → slice_index (set new w q) (j - first) ≡ slice_index new (j - first)
+tops_before new w q first j from to = get_or-set_other new w (j - first) q 0 (λ e. omega arith)
+
+-- and that one
+pub tops_last : (new : List ℕ) (w q first : ℕ) → w < length new → slice_index (set new w q) (first + w - first) ≡ q
+tops_last new w q first low =
+    let at : first + w - first ≡ w = omega arith in
+    ap (slice_index (set new w q)) at ∙ get_or-set_same new w q 0 low
+
+-- the first of them, as they are lent
+pub tops_lent : (new : List ℕ) (words first v : ℕ) → v < words → slice_index (take (words - 0) new) v ≡ slice_index new (first + v - first)
+tops_lent new words first v low =
+    let at : v ≡ first + v - first = omega arith in
+    get_or-take (words - 0) new v 0 (omega arith) ∙ ap (slice_index new) at
+
+-- which are so many
+pub lent_length : (new : List ℕ) (words : ℕ) → words ≤ length new → length (take (words - 0) new) ≡ words
+lent_length new words low = let same : words - 0 ≡ words = omega arith in ap (λ n. length (take n new)) same ∙ length-take-le words new low

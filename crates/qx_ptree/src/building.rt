@@ -1,5 +1,5 @@
 //! A change is prepared: its fresh blocks are taken and filled, and nothing that the node holds is written.
-ghost use Rattle.std.specs.Prelude.{◌≡◌, ◌≤◌, ◌<◌, ◌+◌, ◌-◌, ◌*◌, ◌⊎◌, ℕ, ◌∷◌, ◌++◌, [], true, false, length, IfOk, OnOk, OnErr, IsTrue, slice_index};
+ghost use Rattle.std.specs.Prelude.{◌≡◌, ◌≤◌, ◌<◌, ◌+◌, ◌-◌, ◌*◌, ◌^◌, ◌⊎◌, ℕ, ◌∷◌, ◌++◌, [], true, false, length, IfOk, OnOk, OnErr, IsTrue, slice_index};
 ghost use Rattle.qx_geom.specs.Layout.{levels_for};
 ghost use Rattle.qx_geom.specs.Pointer.{absent, per_block};
 ghost use Rattle.qx_blocks.specs.BlockState.{IsConsistent};
@@ -292,6 +292,7 @@ fn prepare_block<B: Blocks>(
 ) -> Result<u32, Stop>
     requires leads { ¬ (pointer ≡ absent) → IsTrue ((B.state blocks.old).holdings.works pointer) }
     requires long { length pointers.now ≡ per_block (B.state blocks.old).holdings.size }
+    ensures fit { (v : ℕ) → slice_index pointers.now v < 2 ^ 32 }
     ensures written { IfOk result (λ b. WritesBlock order (B.state blocks.old) (B.state blocks.new) work.old work.new pointer pointers.now changed present b) }
 
     ensures err { OnErr result (Adds (B.state blocks.old) (B.state blocks.new) work.old work.new) }
