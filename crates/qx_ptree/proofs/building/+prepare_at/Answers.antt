@@ -1,15 +1,16 @@
-use Rattle.std.proofs.Common.{length-set, rules, ◌≡◌, ◌≢◌, ◌≤◌, ◌<◌, ◌+◌, ◌-◌, ◌*◌, ◌/◌, ◌^◌, ◌⊎◌, inl, inr, ℕ, List, set, take, length, IsTrue, slice_index, arith, refl, sym, ◌∙◌, ap, subst, length-append, get_or-set_other, get_or-set_same, [], ◌∷◌, ◌++◌, get_or, drop, length-take, replicate}
+use Rattle.std.proofs.Common.{length-set, rules, ◌≡◌, ◌≢◌, ◌≤◌, ◌<◌, ◌+◌, ◌-◌, ◌*◌, ◌/◌, ◌^◌, ◌⊎◌, inl, inr, ℕ, List, set, take, length, IsTrue, slice_index, arith, refl, sym, ◌∙◌, ap, subst}
 use Rattle.std.specs.Prelude.{Bool, true, false, ◌||◌}
 use Rattle.qx_geom.specs.Layout.{levels_for}
 use Rattle.qx_geom.specs.Pointer.{absent, per_block}
 use Rattle.qx_blocks.specs.BlockState.{BlockState}
 use Rattle.qx_blocks.specs.Calls.{Keeps}
-use Rattle.qx_ptree.specs.declared.change.Fate.TheVariants.{Stays, Goes, Written}
+use Rattle.qx_ptree.specs.declared.change.Fate.TheVariants.{Stays, Goes}
 use Rattle.qx_ptree.specs.declared.part.Part.{Part}
-use Rattle.qx_ptree.specs.Building.{BuildsOnto, one_block, LiesUnder, Row}
+use Rattle.qx_ptree.specs.Building.{BuildsOnto, LiesUnder, one_block}
 use Rattle.qx_ptree.specs.Fates.{leaves_after}
 use Rattle.qx_ptree.specs.Parts.{part_of}
 use Rattle.qx_ptree.specs.Plans.{InReach, IsPlan, alteration_in, planned_pointer}
+use Rattle.qx_ptree.specs.Reaching.{IsMarked, ReachesOnto}
 use Rattle.qx_ptree.specs.Takings.{Takes}
 use Rattle.qx_ptree.proofs.AddedWork.{adds_none, adds_then}
 use Rattle.qx_ptree.proofs.AlikeParts.{AllFare}
@@ -20,15 +21,10 @@ use Rattle.qx_ptree.proofs.PlannedPointers.{planned_lead}
 use Rattle.qx_ptree.proofs.PointerCounts.{words_bounds, words_positive}
 use Rattle.qx_ptree.proofs.PreparedBlocks.{at_err}
 use Rattle.qx_ptree.proofs.PreparedParts.{adds_given, any_more, any_none, block_onto, changed_all, fare_part, gone_onto, lent_length, or_else, or_then, part_later, present_all, quiet_onto, row_onto_more, row_onto_none, tops_before, tops_last, tops_lent}
+use Rattle.qx_ptree.proofs.ReachedSteps.{marked_block, marked_empty, marked_more, marked_none, marked_sized, onto_block, onto_empty, onto_given_up, onto_more, onto_none, unwritten_block}
 use Rattle.qx_ptree.proofs.RowSlices.{of_part}
 use Rattle.qx_ptree.proofs.SumsBelow.{any_up_to}
 use Rattle.qx_ptree.proofs.TakenBlocks.{Takes-none, Takes-same}
-use Rattle.std.proofs.lemmas.Bool.{cases_eq}
-use Rattle.std.proofs.lemmas.List.{length-replicate, length-set, get_or-replicate, get_or-take}
-use Rattle.qx_ptree.specs.declared.change.Fate.{Fate}
-use Rattle.qx_ptree.specs.Reaching.{IsMarked, IsOwnPosition, ReachesOnto}
-use Rattle.qx_ptree.proofs.ReachedSteps.{marked_block, marked_empty, marked_more, marked_none, marked_sized, onto_block, onto_empty, onto_given_up, onto_more, onto_none, unwritten_block}
-use Rattle.qx_ptree.proofs.PointerArrays.{all_part, below_part, blanks, part_at, part_long, part_small, read_into, small_blanks, small_set}
 use Rattle.qx_ptree.proofs.building.+prepare_at.Goals as goal
 use Rattle.qx_ptree.proofs.building.+prepare_at.Goals.{then-changed, else-changed, then-present, else-present}
 
@@ -86,6 +82,37 @@ returns-in-Some-Goes-clause-present g t c told =
     (λ told. planned_lead m c.args.plan.now c.args.level c.args.index c.args.pointer c.leading-pointer.result (record { consistent = c.leading-pointer.ensures.consistent; long = c.requires.long; met = c.requires.plan; told = told }) (c.requires.pointer told) c.leading-pointer.ensures.same) all
     (told_before m (g.B.Blocks.state c.give_up_below.new.blocks) c.give_up_below.ensures.keeps told)))
 
+-- no written leaf stands there that would have to be reached
+
+pub returns-in-Some-Stays-clause-reaches : goal.returns-in-Some-Stays-clause-reaches
+returns-in-Some-Stays-clause-reaches g t c =
+    let m : BlockState = g.B.Blocks.state c.args.blocks.now in
+    onto_none m m c.args.work.now c.args.work.now c.args.plan.now (one_block c.args.level c.args.index) _ (Takes-same m) refl
+    (unwritten_block m c.args.plan.now c.args.level c.args.index (leaves_after m.holdings.size c.args.plan.now.change) Stays (words_positive m.holdings.size c.leading-pointer.ensures.consistent.size)
+    (λ i low high. c.in-Some-Stays.ensures.fate i low high ∙ c.in-Some-Stays.field-0-is) (λ e. cc))
+
+pub returns-in-Some-Stays-clause-marked : goal.returns-in-Some-Stays-clause-marked
+returns-in-Some-Stays-clause-marked g t c =
+    let m : BlockState = g.B.Blocks.state c.args.blocks.now in
+    marked_none m c.args.plan.now (one_block c.args.level c.args.index) _ _
+    (unwritten_block m c.args.plan.now c.args.level c.args.index (leaves_after m.holdings.size c.args.plan.now.change) Stays (words_positive m.holdings.size c.leading-pointer.ensures.consistent.size)
+    (λ i low high. c.in-Some-Stays.ensures.fate i low high ∙ c.in-Some-Stays.field-0-is) (λ e. cc))
+
+pub returns-in-Some-Goes-clause-reaches : goal.returns-in-Some-Goes-clause-reaches
+returns-in-Some-Goes-clause-reaches g t c =
+    let m : BlockState = g.B.Blocks.state c.args.blocks.now in
+    onto_given_up m (g.B.Blocks.state c.give_up_below.new.blocks) (g.B.Blocks.state c.give_up_below.new.blocks) c.args.work.now c.give_up_below.new.work c.args.plan.now (LiesUnder (per_block m.holdings.size) (one_block c.args.level c.args.index)) _ (one_block c.args.level c.args.index) _
+    (Takes-none m (g.B.Blocks.state c.give_up_below.new.blocks) c.in_ok-give_up_below-in-Some-Goes.ensures.keeps) c.in_ok-give_up_below-in-Some-Goes.ensures.gone
+    (unwritten_block m c.args.plan.now c.args.level c.args.index (leaves_after m.holdings.size c.args.plan.now.change) Goes (words_positive m.holdings.size c.leading-pointer.ensures.consistent.size)
+    (λ i low high. c.in-Some-Goes.ensures.fate i low high ∙ c.in-Some-Goes.field-0-is) (λ e. cc))
+
+pub returns-in-Some-Goes-clause-marked : goal.returns-in-Some-Goes-clause-marked
+returns-in-Some-Goes-clause-marked g t c =
+    let m : BlockState = g.B.Blocks.state c.args.blocks.now in
+    marked_none m c.args.plan.now (one_block c.args.level c.args.index) _ _
+    (unwritten_block m c.args.plan.now c.args.level c.args.index (leaves_after m.holdings.size c.args.plan.now.change) Goes (words_positive m.holdings.size c.leading-pointer.ensures.consistent.size)
+    (λ i low high. c.in-Some-Goes.ensures.fate i low high ∙ c.in-Some-Goes.field-0-is) (λ e. cc))
+
 -- ---- a leaf, and the pointers below a block
 
 pub prepare_leaf-requires-clause-pointer : goal.prepare_leaf-requires-clause-pointer
@@ -107,17 +134,15 @@ returns-in_err-pointers_below-clause-err g t c =
 pub loop-w-init : goal.loop-w-init
 loop-w-init g t c = record {
   told = λ told. told;
+  long = search rules;
+  reaches = onto_empty (g.B.Blocks.state c.args.blocks.now) (g.B.Blocks.state c.pointers_below.new.blocks) c.args.work.now c.args.work.now c.args.plan.now (c.args.level - 1) (c.args.index * per_block (g.B.Blocks.state c.args.blocks.now).holdings.size) _
+      (Takes-none (g.B.Blocks.state c.args.blocks.now) (g.B.Blocks.state c.pointers_below.new.blocks) c.pointers_below.ensures.keeps) refl;
+  marked = marked_empty (g.B.Blocks.state c.args.blocks.now) c.args.plan.now (c.args.level - 1) (c.args.index * per_block (g.B.Blocks.state c.args.blocks.now).holdings.size) false false;
   built = row_onto_none (g.B.Blocks.state c.args.blocks.now) (g.B.Blocks.state c.pointers_below.new.blocks) c.args.plan.now _ _ c.args.work.now refl c.pointers_below.ensures.keeps;
   changed = λ told. any_none _;
   present = λ told. any_none _;
   aside = search rules;
   faults = search rules;
-  reaches = (let m : BlockState = g.B.Blocks.state c.args.blocks.now in
-    let first : ℕ = c.args.index * per_block m.holdings.size in onto_empty m (g.B.Blocks.state c.pointers_below.new.blocks) c.args.work.now c.args.work.now c.args.plan.now (c.args.level - 1) first _ (Takes-none m (g.B.Blocks.state c.pointers_below.new.blocks) c.pointers_below.ensures.keeps) refl);
-  marked = (let m : BlockState = g.B.Blocks.state c.args.blocks.now in
-    let first : ℕ = c.args.index * per_block m.holdings.size in marked_empty m c.args.plan.now (c.args.level - 1) first false false);
-  long = refl;
-  small = λ x low. small_blanks 1024 x low;
 }
 
 pub overflow_mul-at : goal.overflow_mul-at
@@ -191,6 +216,13 @@ loop-w-preserved g t c =
     record {
       told = λ told. c.loop-w.invariant.told (child.adds.takes.told_before told);
       long = length-set c.loop-w.new c.loop-w.w c.in_ok-below.below.pointer ∙ all;
+      reaches = onto_more m n o c.args.work.now c.loop-w.work c.prepare_at.new.work c.args.plan.now (c.args.level - 1) (c.args.index * P) c.loop-w.w c.in_ok-below.below.pointer c.loop-w.new (omega (arith, all, low, wide)) c.loop-w.invariant.reaches
+          (subst (λ k. ReachesOnto n o c.loop-w.work c.prepare_at.new.work c.args.plan.now (one_block (c.args.level - 1) (c.args.index * k + c.loop-w.w)) (λ _. c.in_ok-below.below.pointer)) words c.in_ok-below.ensures.reaches);
+      marked = subst (λ (x : Bool). IsMarked m c.args.plan.now (record { level = c.args.level - 1; first = c.args.index * P; count = c.loop-w.w + 1 }) x c.if-present.present) (sym changed)
+          (subst (λ (x : Bool). IsMarked m c.args.plan.now (record { level = c.args.level - 1; first = c.args.index * P; count = c.loop-w.w + 1 }) (c.loop-w.changed || c.in_ok-below.below.changed) x) (sym present)
+          (marked_more m c.args.plan.now (c.args.level - 1) (c.args.index * P) c.loop-w.w c.loop-w.changed c.loop-w.present c.in_ok-below.below.changed c.in_ok-below.below.present c.loop-w.invariant.marked
+          (marked_sized m n c.args.plan.now (one_block (c.args.level - 1) (c.args.index * P + c.loop-w.w)) c.in_ok-below.below.changed c.in_ok-below.below.present c.loop-w.invariant.reaches.adds.takes.size
+          (subst (λ k. IsMarked n c.args.plan.now (one_block (c.args.level - 1) (c.args.index * k + c.loop-w.w)) c.in_ok-below.below.changed c.in_ok-below.below.present) words c.in_ok-below.ensures.marked))));
       built = row_onto_more m n o c.args.work.now c.loop-w.work c.prepare_at.new.work c.args.plan.now (c.args.level - 1) (c.args.index * P) c.loop-w.w c.in_ok-below.below.pointer
           (λ j. slice_index c.loop-w.new (j - c.args.index * P)) (λ j. slice_index (set c.loop-w.new c.loop-w.w c.in_ok-below.below.pointer) (j - c.args.index * P)) c.leading-pointer.ensures.consistent c.prepare_at.ensures.consistent c.requires.long c.requires.plan
           (tops_before c.loop-w.new c.loop-w.w c.in_ok-below.below.pointer (c.args.index * P)) (tops_last c.loop-w.new c.loop-w.w c.in_ok-below.below.pointer (c.args.index * P) (omega (arith, all, low, wide))) c.loop-w.invariant.built child;
@@ -200,76 +232,6 @@ loop-w-preserved g t c =
           (c.loop-w.invariant.present (child.adds.takes.told_before told)) (c.in_ok-below.ensures.present told ∙ ap (λ (x : Part). x.present) (later told)) present;
       aside = search rules;
       faults = search rules;
-      reaches = (let m : BlockState = g.B.Blocks.state c.args.blocks.now in
-    let now : BlockState = g.B.Blocks.state c.loop-w.blocks in
-    let first : ℕ = c.args.index * per_block m.holdings.size in
-    let w : ℕ = c.loop-w.w in
-    let at : c.args.index * (c.size-words.result / 4) + w ≡ first + w = ap (λ s. c.args.index * (s / 4) + w) c.size-words.ensures.size in
-    let same : now.holdings.size ≡ m.holdings.size = c.loop-w.invariant.reaches.adds.takes.size in
-    let step : IsMarked m c.args.plan.now (one_block (c.args.level - 1) (first + w)) c.in_ok-below.below.changed c.in_ok-below.below.present =
-    marked_sized m now c.args.plan.now (one_block (c.args.level - 1) (first + w)) c.in_ok-below.below.changed c.in_ok-below.below.present same
-    (subst (λ x. IsMarked now c.args.plan.now (one_block (c.args.level - 1) x) c.in_ok-below.below.changed c.in_ok-below.below.present) at c.in_ok-below.ensures.marked) in
-    let changed : (c.loop-w.changed || c.in_ok-below.below.changed) ≡ c.if-changed.changed = elim c.if-changed.branch [
-      | then-changed v ↦ ap (λ x. x || c.in_ok-below.below.changed) v.if-changed.true ∙ sym v.if-changed.true ∙ sym v.changed-is
-      | else-changed v ↦ ap (λ x. x || c.in_ok-below.below.changed) v.if-changed.false ∙ sym v.changed-is
-    ] in
-    let present : (c.loop-w.present || c.in_ok-below.below.present) ≡ c.if-present.present = elim c.if-present.branch [
-      | then-present v ↦ ap (λ x. x || c.in_ok-below.below.present) v.if-present.true ∙ sym v.if-present.true ∙ sym v.present-is
-      | else-present v ↦ ap (λ x. x || c.in_ok-below.below.present) v.if-present.false ∙ sym v.present-is
-    ] in
-    let words : ℕ = c.size-words.result / 4 in
-    let old : List ℕ = read_into (blanks 1024) c.pointers_below.new.into words in
-    let t : c.loop-w.w < length (take (words - 0) (drop 0 old)) = c.loop-w-test.true in
-    let few : words ≤ 1024 = subst (λ s. s / 4 ≤ 1024) (sym c.size-words.ensures.size) (words_bounds m.holdings.size c.leading-pointer.ensures.consistent.size).1 in
-    let low : w < length c.loop-w.new = omega (arith, t, few, below_part w (words - 0) (drop 0 old) t, c.loop-w.invariant.long) in onto_more m now (g.B.Blocks.state c.prepare_at.new.blocks) c.args.work.now c.loop-w.work c.prepare_at.new.work c.args.plan.now (c.args.level - 1) first w c.in_ok-below.below.pointer c.loop-w.new low
-          c.loop-w.invariant.reaches
-          (subst (λ x. ReachesOnto now (g.B.Blocks.state c.prepare_at.new.blocks) c.loop-w.work c.prepare_at.new.work c.args.plan.now (one_block (c.args.level - 1) x) (λ y. c.in_ok-below.below.pointer)) at c.in_ok-below.ensures.reaches));
-      marked = (let m : BlockState = g.B.Blocks.state c.args.blocks.now in
-    let now : BlockState = g.B.Blocks.state c.loop-w.blocks in
-    let first : ℕ = c.args.index * per_block m.holdings.size in
-    let w : ℕ = c.loop-w.w in
-    let at : c.args.index * (c.size-words.result / 4) + w ≡ first + w = ap (λ s. c.args.index * (s / 4) + w) c.size-words.ensures.size in
-    let same : now.holdings.size ≡ m.holdings.size = c.loop-w.invariant.reaches.adds.takes.size in
-    let step : IsMarked m c.args.plan.now (one_block (c.args.level - 1) (first + w)) c.in_ok-below.below.changed c.in_ok-below.below.present =
-    marked_sized m now c.args.plan.now (one_block (c.args.level - 1) (first + w)) c.in_ok-below.below.changed c.in_ok-below.below.present same
-    (subst (λ x. IsMarked now c.args.plan.now (one_block (c.args.level - 1) x) c.in_ok-below.below.changed c.in_ok-below.below.present) at c.in_ok-below.ensures.marked) in
-    let changed : (c.loop-w.changed || c.in_ok-below.below.changed) ≡ c.if-changed.changed = elim c.if-changed.branch [
-      | then-changed v ↦ ap (λ x. x || c.in_ok-below.below.changed) v.if-changed.true ∙ sym v.if-changed.true ∙ sym v.changed-is
-      | else-changed v ↦ ap (λ x. x || c.in_ok-below.below.changed) v.if-changed.false ∙ sym v.changed-is
-    ] in
-    let present : (c.loop-w.present || c.in_ok-below.below.present) ≡ c.if-present.present = elim c.if-present.branch [
-      | then-present v ↦ ap (λ x. x || c.in_ok-below.below.present) v.if-present.true ∙ sym v.if-present.true ∙ sym v.present-is
-      | else-present v ↦ ap (λ x. x || c.in_ok-below.below.present) v.if-present.false ∙ sym v.present-is
-    ] in
-    let words : ℕ = c.size-words.result / 4 in
-    let old : List ℕ = read_into (blanks 1024) c.pointers_below.new.into words in
-    let t : c.loop-w.w < length (take (words - 0) (drop 0 old)) = c.loop-w-test.true in
-    let few : words ≤ 1024 = subst (λ s. s / 4 ≤ 1024) (sym c.size-words.ensures.size) (words_bounds m.holdings.size c.leading-pointer.ensures.consistent.size).1 in
-    let low : w < length c.loop-w.new = omega (arith, t, few, below_part w (words - 0) (drop 0 old) t, c.loop-w.invariant.long) in subst (λ (x : Bool). IsMarked m c.args.plan.now (record { level = c.args.level - 1; first = first; count = w + 1 }) x c.if-present.present) changed
-          (subst (λ (x : Bool). IsMarked m c.args.plan.now (record { level = c.args.level - 1; first = first; count = w + 1 }) (c.loop-w.changed || c.in_ok-below.below.changed) x) present
-          (marked_more m c.args.plan.now (c.args.level - 1) first w c.loop-w.changed c.loop-w.present c.in_ok-below.below.changed c.in_ok-below.below.present c.loop-w.invariant.marked step)));
-      small = (let m : BlockState = g.B.Blocks.state c.args.blocks.now in
-    let now : BlockState = g.B.Blocks.state c.loop-w.blocks in
-    let first : ℕ = c.args.index * per_block m.holdings.size in
-    let w : ℕ = c.loop-w.w in
-    let at : c.args.index * (c.size-words.result / 4) + w ≡ first + w = ap (λ s. c.args.index * (s / 4) + w) c.size-words.ensures.size in
-    let same : now.holdings.size ≡ m.holdings.size = c.loop-w.invariant.reaches.adds.takes.size in
-    let step : IsMarked m c.args.plan.now (one_block (c.args.level - 1) (first + w)) c.in_ok-below.below.changed c.in_ok-below.below.present =
-    marked_sized m now c.args.plan.now (one_block (c.args.level - 1) (first + w)) c.in_ok-below.below.changed c.in_ok-below.below.present same
-    (subst (λ x. IsMarked now c.args.plan.now (one_block (c.args.level - 1) x) c.in_ok-below.below.changed c.in_ok-below.below.present) at c.in_ok-below.ensures.marked) in
-    let changed : (c.loop-w.changed || c.in_ok-below.below.changed) ≡ c.if-changed.changed = elim c.if-changed.branch [
-      | then-changed v ↦ ap (λ x. x || c.in_ok-below.below.changed) v.if-changed.true ∙ sym v.if-changed.true ∙ sym v.changed-is
-      | else-changed v ↦ ap (λ x. x || c.in_ok-below.below.changed) v.if-changed.false ∙ sym v.changed-is
-    ] in
-    let present : (c.loop-w.present || c.in_ok-below.below.present) ≡ c.if-present.present = elim c.if-present.branch [
-      | then-present v ↦ ap (λ x. x || c.in_ok-below.below.present) v.if-present.true ∙ sym v.if-present.true ∙ sym v.present-is
-      | else-present v ↦ ap (λ x. x || c.in_ok-below.below.present) v.if-present.false ∙ sym v.present-is
-    ] in
-    let words : ℕ = c.size-words.result / 4 in
-    let old : List ℕ = read_into (blanks 1024) c.pointers_below.new.into words in
-    let t : c.loop-w.w < length (take (words - 0) (drop 0 old)) = c.loop-w-test.true in
-    let few : words ≤ 1024 = subst (λ s. s / 4 ≤ 1024) (sym c.size-words.ensures.size) (words_bounds m.holdings.size c.leading-pointer.ensures.consistent.size).1 in
-    let low : w < length c.loop-w.new = omega (arith, t, few, below_part w (words - 0) (drop 0 old) t, c.loop-w.invariant.long) in small_set c.loop-w.new w c.in_ok-below.below.pointer low c.loop-w.invariant.small (search rules));
     }
 
 -- ---- the block itself
@@ -317,65 +279,28 @@ returns-clause-present g t c told =
     c.loop-w.invariant.present (c.in_ok-pointer.ensures.written.adds.takes.told_before told) ∙ ap (λ k. any_up_to k (λ v. (part_of (alteration_in c.args.plan.now m) (c.args.level - 1) (c.args.index * P + v)).present)) (end ∙ words)
     ∙ present_all m c.args.plan.now c.args.level c.args.index c.leading-pointer.ensures.consistent c.if-level-eq0.false
 
-pub returns-in-Some-Stays-clause-reaches : goal.returns-in-Some-Stays-clause-reaches
-returns-in-Some-Stays-clause-reaches g t c =
-    let m : BlockState = g.B.Blocks.state c.args.blocks.now in
-    onto_none m m c.args.work.now c.args.work.now c.args.plan.now (one_block c.args.level c.args.index) _ (Takes-same m) refl
-    (unwritten_block m c.args.plan.now c.args.level c.args.index (leaves_after m.holdings.size c.args.plan.now.change) Stays (words_positive m.holdings.size c.leading-pointer.ensures.consistent.size)
-    (λ i low high. c.in-Some-Stays.ensures.fate i low high ∙ c.in-Some-Stays.field-0-is) (λ e. cc))
-
-pub returns-in-Some-Stays-clause-marked : goal.returns-in-Some-Stays-clause-marked
-returns-in-Some-Stays-clause-marked g t c =
-    let m : BlockState = g.B.Blocks.state c.args.blocks.now in
-    marked_none m c.args.plan.now (one_block c.args.level c.args.index) _ _
-    (unwritten_block m c.args.plan.now c.args.level c.args.index (leaves_after m.holdings.size c.args.plan.now.change) Stays (words_positive m.holdings.size c.leading-pointer.ensures.consistent.size)
-    (λ i low high. c.in-Some-Stays.ensures.fate i low high ∙ c.in-Some-Stays.field-0-is) (λ e. cc))
-
-pub returns-in-Some-Goes-clause-reaches : goal.returns-in-Some-Goes-clause-reaches
-returns-in-Some-Goes-clause-reaches g t c =
-    let m : BlockState = g.B.Blocks.state c.args.blocks.now in
-    onto_given_up m (g.B.Blocks.state c.give_up_below.new.blocks) (g.B.Blocks.state c.give_up_below.new.blocks) c.args.work.now c.give_up_below.new.work c.args.plan.now (LiesUnder (per_block m.holdings.size) (one_block c.args.level c.args.index)) _ (one_block c.args.level c.args.index) _
-    (Takes-none m (g.B.Blocks.state c.give_up_below.new.blocks) c.in_ok-give_up_below-in-Some-Goes.ensures.keeps) c.in_ok-give_up_below-in-Some-Goes.ensures.gone
-    (unwritten_block m c.args.plan.now c.args.level c.args.index (leaves_after m.holdings.size c.args.plan.now.change) Goes (words_positive m.holdings.size c.leading-pointer.ensures.consistent.size)
-    (λ i low high. c.in-Some-Goes.ensures.fate i low high ∙ c.in-Some-Goes.field-0-is) (λ e. cc))
-
-pub returns-in-Some-Goes-clause-marked : goal.returns-in-Some-Goes-clause-marked
-returns-in-Some-Goes-clause-marked g t c =
-    let m : BlockState = g.B.Blocks.state c.args.blocks.now in
-    marked_none m c.args.plan.now (one_block c.args.level c.args.index) _ _
-    (unwritten_block m c.args.plan.now c.args.level c.args.index (leaves_after m.holdings.size c.args.plan.now.change) Goes (words_positive m.holdings.size c.leading-pointer.ensures.consistent.size)
-    (λ i low high. c.in-Some-Goes.ensures.fate i low high ∙ c.in-Some-Goes.field-0-is) (λ e. cc))
-
 pub returns-clause-reaches : goal.returns-clause-reaches
 returns-clause-reaches g t c =
     let m : BlockState = g.B.Blocks.state c.args.blocks.now in
-    let now : BlockState = g.B.Blocks.state c.loop-w.blocks in
+    let n : BlockState = g.B.Blocks.state c.loop-w.blocks in
     let P : ℕ = per_block m.holdings.size in
-    let first : ℕ = c.args.index * P in
-    let words : ℕ = c.size-words.result / 4 in
-    let same : words ≡ P = ap (λ s. s / 4) c.size-words.ensures.size in
-    let pos : 0 < P = words_positive m.holdings.size c.leading-pointer.ensures.consistent.size in
-    let few : words ≤ 1024 = subst (λ s. s / 4 ≤ 1024) (sym c.size-words.ensures.size) (words_bounds m.holdings.size c.leading-pointer.ensures.consistent.size).1 in
-    let all : c.loop-w.w ≡ P = all_part 1024 words c.loop-w.w c.pointers_below.new.into few c.pointers_below.ensures.long c.loop-w-test.false c.loop-w.auto.w-end ∙ same in
-    let pointers : List ℕ = take (words - 0) (drop 0 c.loop-w.new) in
-    let short : words ≤ length c.loop-w.new = omega (arith, few, c.loop-w.invariant.long) in
-    let long : length pointers ≡ P = part_long c.loop-w.new words short ∙ same in
-    onto_block m now (g.B.Blocks.state c.prepare_block.new.blocks) c.args.work.now c.loop-w.work c.prepare_block.new.work c.args.plan.now c.args.level c.args.index c.leading-pointer.result _ pointers c.loop-w.changed c.loop-w.present
-    (λ x. get_or c.loop-w.new (x - first) 0) (omega (arith, c.if-level-eq0.false)) pos c.size-size.ensures.consistent
-    (marked_block m c.args.plan.now c.args.level c.args.index c.loop-w.changed c.loop-w.present (omega (arith, c.if-level-eq0.false)) pos
-    (subst (λ x. IsMarked m c.args.plan.now (record { level = c.args.level - 1; first = first; count = x }) c.loop-w.changed c.loop-w.present) all c.loop-w.invariant.marked))
-    long
-    (part_small c.loop-w.new words short c.loop-w.invariant.small)
-    (λ x low. let at : first + x - first ≡ x = omega arith in part_at c.loop-w.new words x (omega (arith, low, same)) ∙ sym (ap (λ y. get_or c.loop-w.new y 0) at))
-    (subst (λ x. ReachesOnto m now c.args.work.now c.loop-w.work c.args.plan.now (record { level = c.args.level - 1; first = first; count = x }) (λ y. get_or c.loop-w.new (y - first) 0)) all c.loop-w.invariant.reaches)
-    c.in_ok-pointer.ensures.written
+    let words : c.size-words.result / 4 ≡ per_block m.holdings.size = ap (λ n. n / 4) c.size-words.ensures.size in
+    let wide : c.size-words.result / 4 ≤ 1024 = omega (arith, words, (words_bounds m.holdings.size c.size-words.ensures.consistent.size).1) in
+    let all : length c.loop-w.new ≡ 1024 = c.loop-w.invariant.long in
+    let end : c.loop-w.w ≡ c.size-words.result / 4 = search rules in
+    let tops : ℕ → ℕ = λ j. slice_index c.loop-w.new (j - c.args.index * P) in
+    onto_block m n (g.B.Blocks.state c.prepare_block.new.blocks) c.args.work.now c.loop-w.work c.prepare_block.new.work c.args.plan.now c.args.level c.args.index c.leading-pointer.result c.in_ok-pointer.pointer (take (c.size-words.result / 4 - 0) c.loop-w.new) c.loop-w.changed c.loop-w.present
+    tops (omega (arith, c.if-level-eq0.false)) (words_positive m.holdings.size c.leading-pointer.ensures.consistent.size) c.size-size.ensures.consistent
+    (marked_block m c.args.plan.now c.args.level c.args.index c.loop-w.changed c.loop-w.present (omega (arith, c.if-level-eq0.false)) (words_positive m.holdings.size c.leading-pointer.ensures.consistent.size)
+    (subst (λ k. IsMarked m c.args.plan.now (record { level = c.args.level - 1; first = c.args.index * P; count = k }) c.loop-w.changed c.loop-w.present) (end ∙ words) c.loop-w.invariant.marked))
+    (lent_length c.loop-w.new (c.size-words.result / 4) (omega (arith, all, wide)) ∙ words) (λ v low. c.prepare_block.ensures.fit v)
+    (λ v low. tops_lent c.loop-w.new (c.size-words.result / 4) (c.args.index * P) v (omega (arith, low, words)))
+    (subst (λ k. ReachesOnto m n c.args.work.now c.loop-w.work c.args.plan.now (record { level = c.args.level - 1; first = c.args.index * P; count = k }) tops) (end ∙ words) c.loop-w.invariant.reaches) c.in_ok-pointer.ensures.written
 
 pub returns-clause-marked : goal.returns-clause-marked
 returns-clause-marked g t c =
     let m : BlockState = g.B.Blocks.state c.args.blocks.now in
-    let P : ℕ = per_block m.holdings.size in
-    let words : ℕ = c.size-words.result / 4 in
-    let few : words ≤ 1024 = subst (λ s. s / 4 ≤ 1024) (sym c.size-words.ensures.size) (words_bounds m.holdings.size c.leading-pointer.ensures.consistent.size).1 in
-    let all : c.loop-w.w ≡ P = all_part 1024 words c.loop-w.w c.pointers_below.new.into few c.pointers_below.ensures.long c.loop-w-test.false c.loop-w.auto.w-end ∙ ap (λ s. s / 4) c.size-words.ensures.size in
+    let words : c.size-words.result / 4 ≡ per_block m.holdings.size = ap (λ n. n / 4) c.size-words.ensures.size in
+    let end : c.loop-w.w ≡ c.size-words.result / 4 = search rules in
     marked_block m c.args.plan.now c.args.level c.args.index c.loop-w.changed c.loop-w.present (omega (arith, c.if-level-eq0.false)) (words_positive m.holdings.size c.leading-pointer.ensures.consistent.size)
-    (subst (λ x. IsMarked m c.args.plan.now (record { level = c.args.level - 1; first = c.args.index * P; count = x }) c.loop-w.changed c.loop-w.present) all c.loop-w.invariant.marked)
+    (subst (λ k. IsMarked m c.args.plan.now (record { level = c.args.level - 1; first = c.args.index * per_block m.holdings.size; count = k }) c.loop-w.changed c.loop-w.present) (end ∙ words) c.loop-w.invariant.marked)
