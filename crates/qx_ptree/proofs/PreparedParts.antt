@@ -185,7 +185,7 @@ pub row_onto_none : (m n : BlockState) (plan : Plan) (row : Row) (tops : ℕ →
 row_onto_none m n plan row tops w none k = record { adds = adds_none m n w w (Takes-none m n k) refl; builds = λ told free. builds_none m n plan row tops none }
 
 -- the number that leads to none was held by no tree before, if it is by none afterwards
-free_before : (f : List ℕ) (m n : BlockState) → Takes f m n → n.holdings.held absent ≡ false → m.holdings.held absent ≡ false
+pub free_before : (f : List ℕ) (m n : BlockState) → Takes f m n → n.holdings.held absent ≡ false → m.holdings.held absent ≡ false
 free_before f m n t free = not_so (m.holdings.held absent) (λ h. true_or_false (n.holdings.held absent) (held_after f m n absent t h) free)
 
 -- one word more

@@ -102,7 +102,7 @@ returns-clause-built g c =
     let b : ℕ = m.holdings.size in
     let some : 0 < b = size_positive b c.size-size.ensures.consistent.size in
     let level : c.levels-level.result ≡ levels_for b (leaves_after b c.args.plan.now.change) = level-is b c.size-size.result c.div_ceil.result c.levels-level.result c.args.plan.now.change some c.size-size.ensures.size c.div_ceil.ensures c.levels-level.ensures in
-    underway_all m (g.B.Blocks.state c.loop-j.blocks) c.args.work.now c.loop-j.work c.args.plan.now c.levels-level.result c.loop-j.j c.loop-j.pointers
+    underway_all m (g.B.Blocks.state c.loop-j.blocks) c.args.work.now c.loop-j.work c.args.plan.now c.levels-level.result c.loop-j.j c.loop-j.pointers c.size.ensures.consistent
     (omega (arith, c.loop-j-test.false, c.loop-j.auto)) c.loop-j.invariant.long level c.loop-j.invariant.underway
 
 pub returns-clause-aside : goal.returns-clause-aside
