@@ -13,7 +13,6 @@ pub mod AlikeParts
 pub mod WholeNeed
 pub mod FullParts
 pub mod PartBounds
-pub mod ReachedLeaves
 pub mod KeptPlans
 pub mod PlannedParts
 pub mod EmptyNodes
