@@ -35,13 +35,6 @@ fare-below blocksize c f k j w low all = λ i from to.
 fare-leaf : (blocksize : ℕ) (c : Change) (f : Fate) (i : ℕ) → AllFare blocksize c f 0 i → fate_of (leaves_after blocksize c) c i ≡ f
 fare-leaf blocksize c f i all = all i (rw pow-zero (omega arith)) (rw pow-zero (omega arith))
 
--- the leaves below a block, as a first one and a number
-pub fare-in_span : (blocksize : ℕ) (c : Change) (f : Fate) (k j span leaves : ℕ) → span ≡ per_block blocksize ^ k → leaves ≡ leaves_after blocksize c
-    → ((i : ℕ) → j * span ≤ i → i < j * span + span → fate_of leaves c i ≡ f) → AllFare blocksize c f k j
-fare-in_span blocksize c f k j span leaves span_is leaves_is all = λ i from to.
-    ap (λ n. fate_of n c i) (sym leaves_is)
-    ∙ all i (subst (λ s. j * s ≤ i) (sym span_is) from) (let up : i < (j + 1) * span = subst (λ s. i < (j + 1) * s) (sym span_is) to in omega arith)
-
 -- no block takes a fresh one where nothing below it changed, and it was there where something is present
 none_needed : (had private present : Bool) → (present ≡ true → had ≡ true) → own_need had private false present ≡ 0
 none_needed true private true was = refl

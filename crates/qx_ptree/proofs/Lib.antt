@@ -15,7 +15,6 @@ pub mod WholeNodes
 pub mod PreparedWhole
 pub mod FullParts
 pub mod PartBounds
-pub mod ReachedLeaves
 pub mod CommitSteps
 pub mod BuiltNodes
 pub mod CommittedBlocks

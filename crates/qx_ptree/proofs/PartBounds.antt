@@ -1,9 +1,8 @@
 -- Bounds on positions, and on how many blocks their parts take.
-use Rattle.std.proofs.Common.{◌≡◌, ℕ, zero, suc, ◌+◌, ◌-◌, ◌*◌, ◌^◌, ◌<◌, ◌≤◌, refl, sym, ◌∙◌, ap, subst, arith, rules, pow-suc, lit<}
-use Rattle.std.specs.Prelude.{Bool, true, false, not, ◌&&◌, ◌||◌, if◌then◌else◌, IsTrue}
+use Rattle.std.proofs.Common.{◌≡◌, ℕ, zero, suc, ◌+◌, ◌-◌, ◌*◌, ◌^◌, ◌<◌, ◌≤◌, refl, sym, ◌∙◌, ap, subst, arith, pow-suc, lit<}
+use Rattle.std.specs.Prelude.{Bool, true, false, not, ◌&&◌, ◌||◌, if◌then◌else◌}
 use Rattle.std.proofs.Math.Nat.{mul-le-mul_left, mul-le-mul_right, mul_assoc, mul_comm, one-le-pow, pow-le-pow_left, pow-le-pow_right}
 use Rattle.std.proofs.Math.Numerals.{sub-one}
-use Rattle.qx_geom.specs.Layout.{is_block_size}
 use Rattle.qx_geom.specs.Pointer.{per_block}
 use Rattle.qx_blocks.specs.BlockState.{IsBlockSize}
 use Rattle.qx_ptree.specs.declared.change.Fate.{Fate}
@@ -16,10 +15,6 @@ use Rattle.qx_ptree.specs.Plans.{InReach}
 -- how many pointers a block has
 pub words-bounds : (b : ℕ) → IsBlockSize b → (128 ≤ per_block b) × (per_block b ≤ 1024)
 words-bounds b sized = omega arith
-
--- the block sizes are those of a volume
-pub size-is : (b : ℕ) → IsBlockSize b → IsTrue (is_block_size b)
-size-is b sized = search (rules, arith)
 
 -- a level's power, by the one below
 power-down : (P level : ℕ) → 0 < level → P ^ level ≡ P ^ (level - 1) * P
@@ -63,10 +58,6 @@ child-fits b level index words sized above r same =
     let plain : (index + 1) * P ≤ 2 ^ 54 = omega arith in
     subst (λ k. index * k + k ≤ 2 ^ 54) (sym same) (omega arith)
 
--- the leaves below a block end within 54 bits
-pub span-fits : (b level index span : ℕ) → InReach b level index → span ≡ per_block b ^ level → index * span + span ≤ 2 ^ 54
-span-fits b level index span r same = let room : (index + 1) * span ≤ 2 ^ 54 = subst (λ x. (index + 1) * x ≤ 2 ^ 54) (sym same) r.leaves in omega arith
-
 -- the blocks to which a node's own pointers lead are in reach
 pub top-reach : (b level j : ℕ) → IsBlockSize b → level ≤ 5 → j < 16 → InReach b level j
 top-reach b level j sized low first =
@@ -83,12 +74,6 @@ own-few had private changed present = at_most (present && (not had || (changed &
     at_most : (b : Bool) → (if b then 1 else 0) ≤ 1
     at_most true = omega arith
     at_most false = omega arith
-
--- so does a leaf
-pub leaf-few : (f : Fate) (had private : Bool) → (leaf_part f had private).need ≤ 1
-leaf-few Stays had private = omega arith
-leaf-few Written had private = own-few had private true true
-leaf-few Goes had private = omega arith
 
 -- and one that isn't written takes none
 pub unwritten-none : (f : Fate) (had private : Bool) → (f ≡ Written → ⊥) → (leaf_part f had private).need ≡ 0

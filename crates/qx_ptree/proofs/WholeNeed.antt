@@ -1,16 +1,14 @@
 -- The need of a change is that of the 16 parts below the node's own pointers.
-use Rattle.std.proofs.Common.{◌≡◌, ℕ, suc, ◌+◌, ◌-◌, ◌*◌, ◌/◌, ◌^◌, ◌<◌, ◌≤◌, ◌⊎◌, inl, inr, sym, ◌∙◌, ap, subst, arith}
-use Rattle.std.specs.Prelude.{Bool, true, false, ◌==◌, count_by, length}
+use Rattle.std.proofs.Common.{◌≡◌, ℕ, ◌+◌, ◌-◌, ◌*◌, ◌/◌, ◌^◌, ◌<◌, ◌≤◌, inl, inr, sym, ◌∙◌, ap, subst, arith}
+use Rattle.std.specs.Prelude.{true, ◌==◌, count_by, length}
 use Rattle.std.specs.Int.{div_ceil}
-use Rattle.std.proofs.Math.Nat.{div-div-eq-div-mul, mul-le-mul_right, one-le-pow, pow-le-pow_right, pow-suc}
-use Rattle.std.proofs.lemmas.Bool.{cases_lt}
+use Rattle.std.proofs.Math.Nat.{div-div-eq-div-mul, one-le-pow}
 use Rattle.std.proofs.lemmas.Nat.{div_below, pow-add}
-use Rattle.qx_geom.proofs.ImagesAndFilters.{filter_in, image_any}
+use Rattle.qx_geom.proofs.ImagesAndFilters.{filter_in}
 use Rattle.qx_geom.proofs.LeastLevels.{levels_for-le, levels_for-reach}
 use Rattle.qx_geom.proofs.LeastTouch.{leaf_below}
 use Rattle.qx_geom.proofs.LevelCounts.{ceil_div-is, ceil_div-le}
 use Rattle.qx_geom.proofs.PresentLeaves.{present_after_members}
-use Rattle.qx_geom.proofs.Truths.{not_so}
 use Rattle.qx_geom.specs.Layout.{levels_for}
 use Rattle.qx_geom.specs.Lists.{is_in}
 use Rattle.qx_geom.specs.Pointer.{ceil_div, per_block, reach}
@@ -20,7 +18,7 @@ use Rattle.qx_ptree.specs.declared.change.Change.{Change}
 use Rattle.qx_ptree.specs.declared.part.Part.{Part}
 use Rattle.qx_ptree.specs.Alterations.{Alteration, fresh_count}
 use Rattle.qx_ptree.specs.Fates.{IsChange, leaves_after, written_by}
-use Rattle.qx_ptree.specs.Parts.{fresh_positions, has_below, part_of}
+use Rattle.qx_ptree.specs.Parts.{fresh_positions, part_of}
 use Rattle.qx_ptree.proofs.LeafParts.{in_written-is, new_shape}
 use Rattle.qx_ptree.proofs.PartsOfBlocks.{fresh-levels}
 use Rattle.qx_ptree.proofs.SumsBelow.{count_all, sum_by-below, sum_up_to, sum_up_to-alike, sum_up_to-more, sum_up_to-turned}
@@ -84,25 +82,3 @@ new-reached blocksize old c some change i m =
     let low : i < leaves_after blocksize c = new-below blocksize old c i change m in
     let far : leaves_after blocksize c ≤ reach blocksize (levels_for blocksize (leaves_after blocksize c)) = levels_for-reach blocksize (leaves_after blocksize c) 5 (omega arith) (leaves-reached blocksize c some change) in
     omega (arith, low, far)
-
--- above a node's levels only the first block has leaves below it
-pub none-beyond : (blocksize : ℕ) (s : Shape) (k j : ℕ) → 16 ≤ per_block blocksize → ((i : ℕ) → is_in s.present i ≡ true → i < 16 * per_block blocksize ^ s.levels) → s.levels < k → 0 < j → has_below blocksize s.present k j ≡ false
-none-beyond blocksize s k j wide reached above past = not_so (has_below blocksize s.present k j) (λ h.
-    let l = image_any (index_above blocksize k) j s.present h in
-    let i : ℕ = l.0 in
-    let P : ℕ = per_block blocksize in
-    let low : i < 16 * P ^ s.levels = reached l.0 l.1 in
-    let more : 16 * P ^ s.levels ≤ P * P ^ s.levels = mul-le-mul_right (P ^ s.levels) wide in
-    let power : P ^ suc s.levels ≡ P ^ s.levels * P = pow-suc P s.levels in
-    let far : P ^ suc s.levels ≤ P ^ k = pow-le-pow_right {n = P} (omega arith) {i = suc s.levels} {j = k} (omega arith) in
-    let none : i / P ^ k < 1 = div_below i (P ^ k) 1 (one-le-pow k P (omega arith)) (omega arith) in
-    let is : i / P ^ k ≡ j = l.2 in
-    omega arith)
-
--- so whether something was below a block is known where it is known within the node's levels, and said to be nothing above them
-pub had-anywhere : (blocksize : ℕ) (s : Shape) (k j : ℕ) (had : Bool) → 16 ≤ per_block blocksize → ((i : ℕ) → is_in s.present i ≡ true → i < 16 * per_block blocksize ^ s.levels)
-    → (k ≤ s.levels → had ≡ has_below blocksize s.present k j) → (s.levels < k → (0 < j) × (had ≡ false)) → (had ≡ has_below blocksize s.present k j) × ((k ≤ s.levels) ⊎ (had ≡ false))
-had-anywhere blocksize s k j had wide reached within above = elim (cases_lt s.levels k) [
-  | inl lt ↦ let past = above lt in (past.1 ∙ sym (none-beyond blocksize s k j wide reached lt past.0), inr past.1)
-  | inr le ↦ (within le, inl le)
-]

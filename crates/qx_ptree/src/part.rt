@@ -53,7 +53,8 @@ pub(crate) fn leaf_part(fate: Fate, had: bool, private: bool) -> Part
 
 // The fresh blocks that a block itself takes, one or none.
 pub(crate) fn own_need(had: bool, private: bool, changed: bool, present: bool) -> u64
-    ensures { result ≡ own_need_of had private changed present }
+    ensures need { result ≡ own_need_of had private changed present }
+    ensures few { result ≤ 1 }
 {
     if present && (!had || (changed && !private)) {
         1

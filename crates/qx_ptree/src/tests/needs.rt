@@ -85,7 +85,7 @@ fn so_it_does_in_larger_blocks(rt: HostRuntime) -> Result<(), Fail> {
 }
 
 #[test]
-fn a_change_that_writes_no_leaf_takes_nothing(rt: HostRuntime) -> Result<(), Fail> {
+fn an_empty_node_that_only_grows_takes_nothing(rt: HostRuntime) -> Result<(), Fail> {
     assert_eq!(rt; takes(rt.alloc(), 512, 1 << 40, 0, 0, None)?, 0);
     Ok(())
 }

@@ -14,7 +14,7 @@ use Rattle.qx_ptree.specs.Plans.{alteration_in, planned_pointer}
 use Rattle.qx_ptree.proofs.KeptPlans.{kept_again, kept_part, kept_plan, kept_reach}
 use Rattle.qx_ptree.proofs.LeafParts.{new-ascends}
 use Rattle.qx_ptree.proofs.PartsOfBlocks.{part-done, part-more}
-use Rattle.qx_ptree.proofs.PartBounds.{child-fits, child-reach, few-all, few-fits, few-more, level-fits, own-few}
+use Rattle.qx_ptree.proofs.PartBounds.{child-fits, child-reach, few-all, few-fits, few-more, level-fits}
 use Rattle.qx_ptree.proofs.PlannedParts.{followed}
 use Rattle.qx_ptree.proofs.PlannedPointers.{IsToldPlan, planned_position}
 use Rattle.qx_ptree.proofs.PointerCounts.{words_positive}
@@ -102,11 +102,10 @@ pub overflow_add-part : goal.overflow_add-part
 overflow_add-part g t c =
     let b : ℕ = (g.B.Blocks.state c.args.blocks.now).holdings.size in
     let all : c.loop-w.w ≡ per_block b = omega (arith, c.loop-w-test.false, c.loop-w.auto, c.in_ok-pointers.ensures.long, c.size-words.ensures.size) in
-    let own : c.own_need.result ≤ 1 = subst (λ n. n ≤ 1) (sym c.own_need.ensures) (own-few (not (c.leading-pointer.result == absent)) c.is_private-private.result c.loop-w.part.changed c.loop-w.part.present) in
     omega (
       arith,
       level-fits b c.args.level c.size-words.ensures.consistent.size c.requires.reach.most,
-      few-all b c.args.level c.loop-w.part.need c.loop-w.w c.own_need.result c.size-words.ensures.consistent.size (omega (arith, c.if-level-eq0.false)) c.loop-w.invariant.few all own,
+      few-all b c.args.level c.loop-w.part.need c.loop-w.w c.own_need.result c.size-words.ensures.consistent.size (omega (arith, c.if-level-eq0.false)) c.loop-w.invariant.few all c.own_need.ensures.few,
     )
 
 pub returns-clause-part : goal.returns-clause-part
@@ -124,11 +123,10 @@ returns-clause-part g t c = λ told le.
     let private : c.is_private-private.result ≡ m.holdings.private (planned_pointer plan m c.args.level c.args.index) = c.is_private-private.ensures.private ∙ ap (λ h. h.private c.leading-pointer.result) c.loop-w.invariant.keeps.holdings ∙ ap m.holdings.private pointer in
     part-done (alteration_in plan m) c.args.level c.args.index c.loop-w.w c.own_need.result (not (c.leading-pointer.result == absent)) c.is_private-private.result c.loop-w.part
     (new-ascends b old plan.change (present_ascends (block_map plan.order m) plan.node words)) words (omega (arith, c.if-level-eq0.false)) le all
-    (c.loop-w.invariant.part told le) had private c.own_need.ensures
+    (c.loop-w.invariant.part told le) had private c.own_need.ensures.need
 
 pub returns-clause-few : goal.returns-clause-few
 returns-clause-few g t c =
     let b : ℕ = (g.B.Blocks.state c.args.blocks.now).holdings.size in
     let all : c.loop-w.w ≡ per_block b = omega (arith, c.loop-w-test.false, c.loop-w.auto, c.in_ok-pointers.ensures.long, c.size-words.ensures.size) in
-    let own : c.own_need.result ≤ 1 = subst (λ n. n ≤ 1) (sym c.own_need.ensures) (own-few (not (c.leading-pointer.result == absent)) c.is_private-private.result c.loop-w.part.changed c.loop-w.part.present) in
-    few-all b c.args.level c.loop-w.part.need c.loop-w.w c.own_need.result c.size-words.ensures.consistent.size (omega (arith, c.if-level-eq0.false)) c.loop-w.invariant.few all own
+    few-all b c.args.level c.loop-w.part.need c.loop-w.w c.own_need.result c.size-words.ensures.consistent.size (omega (arith, c.if-level-eq0.false)) c.loop-w.invariant.few all c.own_need.ensures.few
