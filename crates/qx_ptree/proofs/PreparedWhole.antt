@@ -1,0 +1,71 @@
+-- What the preparation of a whole node answers where the work before it was none.
+use Rattle.std.proofs.Common.{◌≡◌, ℕ, ◌+◌, ◌-◌, ◌*◌, ◌<◌, ◌≤◌, length, refl, sym, ◌∙◌, ap, subst, arith}
+use Rattle.std.specs.Prelude.{slice_index, IsTrue}
+use Rattle.std.proofs.Math.Nat.{div-lt_iff_lt-mul}
+use Rattle.qx_geom.proofs.LeastLevels.{levels_for-reach}
+use Rattle.qx_geom.specs.declared.root.Root.{Root}
+use Rattle.qx_geom.specs.Layout.{levels_for}
+use Rattle.qx_geom.specs.Lists.{Distinct}
+use Rattle.qx_geom.specs.Pointer.{ceil_div, reach}
+use Rattle.qx_blocks.specs.BlockState.{BlockState, IsConsistent}
+use Rattle.qx_ptree.specs.declared.fresh_blocks.Plan.{Plan}
+use Rattle.qx_ptree.specs.Altered.{IsPrepared}
+use Rattle.qx_ptree.specs.BuiltNode.{BuildsNode}
+use Rattle.qx_ptree.specs.Fates.{leaves_after}
+use Rattle.qx_ptree.specs.Plans.{IsPlan}
+use Rattle.qx_ptree.specs.Reaching.{ReachesOnto}
+use Rattle.qx_ptree.specs.ReadyLeaves.{IsReadyApart, IsWrittenBy, OwnAsLeft, StandIn}
+use Rattle.qx_ptree.specs.Takings.{Takes}
+use Rattle.qx_ptree.specs.Trees.{HasLevels}
+use Rattle.qx_ptree.specs.WorkState.{CanCommit, CanEdit, Preparation, WorkState, all_blocks, and_then, committed, no_work, blocks_of}
+use Rattle.qx_ptree.proofs.PointerCounts.{size_positive, words_positive}
+use Rattle.qx_ptree.proofs.PreparedNodes.{added-is-prepared, added-takes}
+use Rattle.qx_ptree.proofs.ReachedSteps.{ready_prepared, stand_prepared}
+use Rattle.qx_ptree.proofs.WholeNeed.{leaves-reached, new-levels}
+
+-- a size lies below as many leaves as it takes
+size-below : (n p most : ℕ) → 0 < p → ceil_div n p ≤ most → n ≤ most * p
+size-below n p most some low = let far : n + p - 1 < (most + 1) * p = (div-lt_iff_lt-mul some).0 (omega (arith, low)) in omega (arith, far)
+
+-- the preparation of a plan's node
+abbrev pub whole_of : Plan → Root → WorkState → Preparation
+whole_of plan root work = record { node = plan.node; change = plan.change; root = root; work = work }
+
+module _ (m n : BlockState) (plan : Plan) (before work : WorkState) (root : Root) (none : before ≡ no_work) (s : IsConsistent m) (met : IsPlan m plan) (b : BuildsNode m n before work plan root) where
+  -- the work is what was added
+  is-added : work ≡ b.reaches.adds.added
+  is-added = b.reaches.adds.is ∙ ap (λ w. and_then w b.reaches.adds.added) none
+
+  -- the levels reach the size
+  pub whole-levels : HasLevels m.holdings.size root
+  whole-levels =
+      let size : ℕ = m.holdings.size in
+      let some : 0 < size = size_positive size s.size in
+      let leaves : ℕ = leaves_after size plan.change in
+      let far : leaves ≤ reach size (levels_for size leaves) = levels_for-reach size leaves 5 (omega arith) (leaves-reached size plan.change some met.change) in
+      let low : plan.change.size ≤ reach size root.levels * size = size-below plan.change.size size (reach size root.levels) some (subst (λ l. leaves ≤ reach size l) (sym b.levels) far) in
+      record { most = omega (arith, b.levels, new-levels size plan.change some met.change); reached = omega (arith, b.size, low) }
+
+  -- its fresh blocks were taken
+  pub whole-takes : Takes work.fresh m n
+  whole-takes = added-takes m n before work none b.reaches.adds
+
+  -- its edits can be written
+  pub whole-ready : CanCommit n (whole_of plan root work)
+  whole-ready = subst (λ w. CanEdit n w) (sym is-added) b.reaches.adds.edits
+
+  -- its written leaves are ready once it is committed
+  pub whole-written : Distinct (all_blocks work) → (now : BlockState) → OwnAsLeft (whole_of plan root work) n now → IsReadyApart plan.order (committed now (whole_of plan root work)) root (IsWrittenBy plan.change)
+  whole-written distinct now left =
+      ready_prepared m n now plan (whole_of plan root work) (size_positive m.holdings.size s.size) (words_positive m.holdings.size s.size) met.change refl b.long b.levels distinct
+      (subst (λ w. ReachesOnto m n w work plan (record { level = root.levels; first = 0; count = 16 }) (slice_index root.pointers)) none b.reaches) left
+
+  -- and their blocks are those of the change
+  pub whole-own : Distinct (all_blocks work) → (now : BlockState) → OwnAsLeft (whole_of plan root work) n now → StandIn plan.order (committed now (whole_of plan root work)) root (IsWrittenBy plan.change) (blocks_of (whole_of plan root work))
+  whole-own distinct now left =
+      stand_prepared m n now plan (whole_of plan root work) (size_positive m.holdings.size s.size) (words_positive m.holdings.size s.size) met.change refl b.long b.levels distinct
+      (subst (λ w. ReachesOnto m n w work plan (record { level = root.levels; first = 0; count = 16 }) (slice_index root.pointers)) none b.reaches) left
+
+  -- and where bytes are told it is prepared
+  pub whole-prepared : IsConsistent n → length plan.node.pointers ≡ 16 → IsTrue n.tells → IsPrepared plan.order m n (whole_of plan root work)
+  whole-prepared after long told = added-is-prepared m n plan before work root s after long b.long met told none b.reaches.adds (b.tree told)

@@ -1,0 +1,14 @@
+pub mod Trees
+pub mod Fates
+pub mod Alterations
+pub mod Parts
+pub mod Plans
+pub mod WorkState
+pub mod WorkView
+pub mod PreparedView
+pub mod Takings
+pub mod Altered
+pub mod Building
+pub mod BuiltNode
+pub mod ReadyLeaves
+pub mod Reaching

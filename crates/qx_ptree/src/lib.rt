@@ -1,0 +1,29 @@
+//! Pointer trees: where a node's leaves stand, and how a node changes without a write into a block of another tree.
+//!
+//! Stands on `qx_blocks` for blocks, on `qx_geom` for positions and on `qx_nodes` for what a node's pointers lead to; files and long names stand on it.
+//! Its contract: `leaf` answers the leaf of `qx_nodes/specs/Leaves.antt`, and `need` the count of `specs/Alterations.antt`.
+//! It keeps no state of its own: what it knows it reads from the pointers that are there, never leaf by leaf.
+//! It never writes a block that another tree holds.
+#![tactic(auto)]
+
+mod building;
+mod change;
+mod fresh_blocks;
+mod leaf_path;
+mod part;
+mod pointers;
+mod prepared;
+mod ready_path;
+mod scratch;
+mod work;
+
+pub use building::prepare;
+pub use change::Change;
+pub use fresh_blocks::need;
+pub use leaf_path::leaf;
+pub use prepared::{Prepared, abandon, apart, commit};
+pub use ready_path::ready_leaf;
+pub use scratch::draft;
+
+#[cfg(test)]
+mod tests;

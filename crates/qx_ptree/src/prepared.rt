@@ -1,0 +1,67 @@
+//! A change of a node that waits for its commit.
+ghost use Rattle.std.specs.Prelude.{◌≡◌, [], not};
+ghost use Rattle.std.specs.List.{list_any};
+ghost use Rattle.qx_geom.specs.Lists.{is_in};
+ghost use Rattle.qx_ptree.specs.Takings.{LeavesOthers, Takes};
+ghost use Rattle.qx_ptree.specs.WorkState.{CanCommit, blocks_of, committed, with_edits, without_all, CanEdit};
+
+use crate::change::Change;
+use crate::work::Work;
+use qx_blocks::Blocks;
+use qx_geom::Root;
+use std::marker::Model;
+
+/// A change of a node, with all that its commit needs: that reads nothing, and can't be refused.
+#[derive(Drop)]
+pub struct Prepared {
+    pub(crate) node: Root,
+    pub(crate) change: Change,
+    pub(crate) root: Root,
+    pub(crate) work: Work,
+}
+
+impl Model for Prepared {
+    ghost use Rattle.qx_ptree.specs.WorkState.{Preparation};
+
+    ghost Value = { Preparation };
+
+    ghost use Rattle.qx_ptree.specs.PreparedView.{prepared_in};
+
+    ghost view = { prepared_in };
+}
+
+/// Puts the node that was prepared in place of the old one. The working tree's hold of the blocks that the change leaves out is given up.
+pub fn commit<B: Blocks>(node: &mut Root, blocks: &mut B, p: Prepared)
+    requires node { node.old ≡ p.node }
+    requires ready { CanCommit (B.state blocks.old) p }
+    ensures node { node.new ≡ p.root }
+    ensures blocks { B.state blocks.new ≡ committed (B.state blocks.old) p }
+
+    ensures others { LeavesOthers (blocks_of p) (B.state blocks.old) (B.state blocks.new) }
+    ensures aside { B.Blocks.aside blocks.new ≡ B.Blocks.aside blocks.old }
+    ensures faults { B.faults blocks.new ≡ B.faults blocks.old }
+{
+    p.work.write_edits(blocks);
+    p.work.give_all_up(blocks);
+    *node = p.root;
+}
+
+/// Gives back the blocks that were taken for a change, which is then forgotten.
+pub fn abandon<B: Blocks>(blocks: &mut B, p: Prepared)
+    ensures blocks { B.state blocks.new ≡ without_all (B.state blocks.old) p.work.fresh }
+
+    // Where nothing else came between, all is as it was before the change was prepared.
+    ensures back { (m : _) → Takes p.work.fresh m (B.state blocks.old) → Takes [] m (B.state blocks.new) }
+
+    ensures aside { B.Blocks.aside blocks.new ≡ B.Blocks.aside blocks.old }
+    ensures faults { B.faults blocks.new ≡ B.faults blocks.old }
+{
+    p.work.give_back(blocks);
+}
+
+/// Whether two changes have no block in common.
+pub fn apart(p: &Prepared, q: &Prepared) -> bool
+    ensures { result ≡ not (list_any (λ b. is_in (blocks_of q.now) b) (blocks_of p.now)) }
+{
+    !p.work.meets(&q.work)
+}
