@@ -1,16 +1,15 @@
 -- A leaf that was built, and a pointer block above what was built below its words.
-use Rattle.std.proofs.Common.{◌≡◌, ◌≢◌, ℕ, zero, suc, ◌+◌, ◌*◌, ◌-◌, ◌^◌, ◌/◌, ◌%◌, ◌<◌, ◌≤◌, ◌⊎◌, inl, inr, List, [], ◌∷◌, ◌++◌, length, length-append, refl, sym, ◌∙◌, ap, subst, arith}
-use Rattle.std.specs.Prelude.{Bool, true, false, ◌==◌, if◌then◌else◌, Contains, sum_by}
+use Rattle.std.proofs.Common.{◌≡◌, ◌≢◌, ℕ, zero, suc, ◌+◌, ◌*◌, ◌-◌, ◌^◌, ◌/◌, ◌%◌, ◌<◌, ◌≤◌, ◌⊎◌, inl, inr, List, ◌++◌, length, length-append, refl, sym, ◌∙◌, ap, subst, arith}
+use Rattle.std.specs.Prelude.{Bool, true, ◌==◌, if◌then◌else◌, Contains, sum_by}
 use Rattle.std.specs.List.{range_with_len}
 use Rattle.std.proofs.Math.Nat.{div-div-eq-div-mul, mod-lt, mul_comm, pow-suc}
 use Rattle.std.proofs.Math.Numerals.{add-one}
 use Rattle.std.proofs.lemmas.Bool.{cases_lt}
-use Rattle.std.proofs.lemmas.List.Elements.{Contains-append_cases, Contains-append_left, Contains-append_right}
+use Rattle.std.proofs.lemmas.List.Elements.{Contains-append_cases, Contains-append_left}
 use Rattle.std.proofs.lemmas.Nat.{div-add-mod', div-mul-add}
 use Rattle.qx_geom.specs.Lists.{IsAscending, is_in}
 use Rattle.qx_geom.specs.Pointer.{absent, per_block}
 use Rattle.qx_geom.specs.Positions.{has_position}
-use Rattle.qx_geom.specs.Touch.{changed_leaves}
 use Rattle.qx_geom.proofs.Members.{in_append_cases, in_left, in_right}
 use Rattle.qx_nodes.specs.BlockMap.{BlockMap, with_bytes, word}
 use Rattle.qx_nodes.proofs.LeafPaths.{by_one}
@@ -20,13 +19,12 @@ use Rattle.qx_ptree.specs.declared.fresh_blocks.Plan.{Plan}
 use Rattle.qx_ptree.specs.Altered.{takes_fresh}
 use Rattle.qx_ptree.specs.Alterations.{Alteration, shape_in}
 use Rattle.qx_ptree.specs.Building.{Builds, HasOldPosition, IsFreshPosition, IsOldPosition, IsPlaced, LiesUnder, Row, Shows, is_kept, loses_block, new_pointer, one_block, pointer_down}
-use Rattle.qx_ptree.specs.Parts.{fresh_below, has_below, own_need}
+use Rattle.qx_ptree.specs.Parts.{fresh_below}
 use Rattle.qx_ptree.specs.Plans.{alteration_in, planned_pointer}
 use Rattle.qx_ptree.specs.Trees.{block_map}
 use Rattle.qx_ptree.specs.WorkState.{EditState, WorkState, and_then}
 use Rattle.qx_ptree.proofs.BuiltRows.{old_wider, placed_more, planned_apart, shows_part, sum_more, sum_one}
 use Rattle.qx_ptree.proofs.LeafParts.{new-ascends}
-use Rattle.qx_ptree.proofs.OwnPositions.{had-below}
 use Rattle.qx_ptree.proofs.OwnWork.{IsOwn, IsOwnWork}
 use Rattle.qx_ptree.proofs.PartsOfBlocks.{fresh-leaf, fresh-up}
 use Rattle.qx_ptree.proofs.PlannedPointers.{IsToldPlan}

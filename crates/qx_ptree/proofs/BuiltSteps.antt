@@ -1,17 +1,15 @@
 -- What is built by the steps of a preparation: a leaf that is written, a block more of a row, and the pointer block above a row.
-use Rattle.std.proofs.Common.{◌≡◌, ◌≢◌, ℕ, zero, suc, ◌+◌, ◌*◌, ◌-◌, ◌^◌, ◌/◌, ◌<◌, ◌≤◌, inl, inr, List, [], ◌∷◌, length, take, All, refl, sym, ◌∙◌, ap, subst, arith}
-use Rattle.std.specs.Prelude.{Bool, true, false, not, ◌==◌, if◌then◌else◌, IsTrue, Contains, slice_index, slice_range, replicate}
-use Rattle.std.specs.List.{range_with_len}
+use Rattle.std.proofs.Common.{◌≡◌, ◌≢◌, ℕ, suc, ◌+◌, ◌*◌, ◌-◌, ◌^◌, ◌/◌, ◌<◌, ◌≤◌, inl, inr, List, [], ◌∷◌, length, take, refl, sym, ◌∙◌, ap, subst, arith}
+use Rattle.std.specs.Prelude.{Bool, true, false, not, ◌==◌, if◌then◌else◌, IsTrue, slice_index, slice_range}
 use Rattle.std.proofs.Math.Seq.{take-length}
 use Rattle.std.proofs.lemmas.Bool.{cases_eq, cases_lt, eq-eqb, ne_eqb}
 use Rattle.std.proofs.lemmas.List.Elements.{All-from_get_or, Contains-append_left, Contains-append_right}
 use Rattle.std.proofs.lemmas.List.FromFn.{get_or-map-range_with_len}
 use Rattle.qx_fields.specs.declared.order.Order.{Order}
-use Rattle.qx_fields.specs.Number.{all_digits, field, fields}
+use Rattle.qx_fields.specs.Number.{field, fields}
 use Rattle.qx_fields.proofs.Fields.{fields_spelled, length_all_digits}
 use Rattle.qx_geom.specs.Lists.{is_in}
 use Rattle.qx_geom.specs.Pointer.{absent, per_block}
-use Rattle.qx_geom.specs.Positions.{has_position}
 use Rattle.qx_geom.specs.Touch.{changed_leaves}
 use Rattle.qx_geom.proofs.Members.{Contains-head, in_head, in_left, in_right}
 use Rattle.qx_geom.proofs.Truths.{true_or_false}
@@ -20,13 +18,13 @@ use Rattle.qx_nodes.proofs.LeafPaths.{by_one}
 use Rattle.qx_blocks.specs.BlockState.{BlockState, IsConsistent}
 use Rattle.qx_ptree.specs.declared.fresh_blocks.Plan.{Plan}
 use Rattle.qx_ptree.specs.Alterations.{Alteration}
-use Rattle.qx_ptree.specs.Building.{BlockWork, Builds, IsPlaced, LeafWork, LiesUnder, Row, Shows, new_pointer, one_block, pointer_bytes, pointer_down, work_edited, work_kept, work_lost, work_moved, work_taken, never, lost, same, edited, taken, moved, stays}
+use Rattle.qx_ptree.specs.Building.{BlockWork, Builds, IsPlaced, LeafWork, LiesUnder, Row, Shows, new_pointer, one_block, pointer_bytes, pointer_down, work_kept, work_lost, never, lost, same, edited, taken, moved, stays}
 use Rattle.qx_ptree.specs.Parts.{has_below, part_of}
 use Rattle.qx_ptree.specs.Plans.{alteration_in, planned_pointer}
 use Rattle.qx_ptree.specs.Takings.{Takes}
 use Rattle.qx_ptree.specs.Trees.{block_map}
 use Rattle.qx_ptree.specs.WorkState.{EditState, WorkState, and_then, no_work}
-use Rattle.qx_ptree.proofs.BuiltBlocks.{builds_block, builds_leaf}
+use Rattle.qx_ptree.proofs.BuiltBlocks.{builds_block}
 use Rattle.qx_ptree.proofs.BuiltRows.{builds_more, shows_part}
 use Rattle.qx_ptree.proofs.CarriedBuilds.{builds_earlier, builds_later}
 use Rattle.qx_ptree.proofs.CarriedPlans.{carried, fresh_held, pointer_held, planned_numbers, private_after}

@@ -1,6 +1,6 @@
 -- What was built below a row stays built where other blocks were taken before it or after it.
-use Rattle.std.proofs.Common.{◌≡◌, ◌≢◌, ℕ, zero, suc, ◌+◌, ◌*◌, ◌-◌, ◌^◌, ◌/◌, ◌<◌, ◌≤◌, List, refl, sym, ◌∙◌, ap, subst, arith}
-use Rattle.std.specs.Prelude.{Bool, true, false, not, ◌==◌, IsTrue, Contains}
+use Rattle.std.proofs.Common.{◌≡◌, ◌≢◌, ℕ, ◌-◌, ◌^◌, ◌/◌, List, sym, ◌∙◌, ap, subst}
+use Rattle.std.specs.Prelude.{Bool, true, false, not, IsTrue}
 use Rattle.std.specs.Prelude.{sum_by}
 use Rattle.std.specs.List.{range_with_len}
 use Rattle.std.proofs.lemmas.Bool.{eq-eqb}
@@ -8,8 +8,6 @@ use Rattle.qx_geom.specs.Lists.{is_in}
 use Rattle.qx_geom.specs.Pointer.{absent, per_block}
 use Rattle.qx_geom.specs.Positions.{has_position}
 use Rattle.qx_geom.specs.Touch.{is_touched}
-use Rattle.qx_nodes.specs.BlockMap.{BlockMap, with_bytes}
-use Rattle.qx_nodes.specs.Content.{leaf_bytes}
 use Rattle.qx_blocks.specs.BlockState.{BlockState}
 use Rattle.qx_ptree.specs.declared.fresh_blocks.Plan.{Plan}
 use Rattle.qx_ptree.specs.Altered.{keeps_block, takes_fresh}
@@ -18,8 +16,7 @@ use Rattle.qx_ptree.specs.Building.{Builds, HasOldPosition, IsFreshPosition, IsO
 use Rattle.qx_ptree.specs.Parts.{fresh_below}
 use Rattle.qx_ptree.specs.Plans.{alteration_in, planned_pointer}
 use Rattle.qx_ptree.specs.Takings.{Takes}
-use Rattle.qx_ptree.specs.Trees.{block_map}
-use Rattle.qx_ptree.specs.WorkState.{EditState, WorkState}
+use Rattle.qx_ptree.specs.WorkState.{WorkState}
 use Rattle.qx_ptree.proofs.CarriedPlans.{IsCarried, fresh_held}
 use Rattle.qx_ptree.proofs.PlannedPointers.{IsToldPlan, planned_position}
 

@@ -1,33 +1,30 @@
 -- What a plan says of its node after a call that took blocks: the same as before it.
-use Rattle.std.proofs.Common.{◌≡◌, ◌≢◌, ℕ, zero, suc, ◌+◌, ◌*◌, ◌-◌, ◌^◌, ◌/◌, ◌%◌, ◌<◌, ◌≤◌, inl, inr, List, [], length, refl, sym, ◌∙◌, ap, subst, arith}
-use Rattle.std.specs.Prelude.{Bool, true, false, not, ◌&&◌, ◌||◌, nat_le, ◌==◌, nat_lt, if◌then◌else◌, slice_index_or, IsTrue, Contains, map, filter, replicate}
-use Rattle.std.proofs.lemmas.Bool.{cases_eq, cases_lt, eq-eqb, ne_eqb}
+use Rattle.std.proofs.Common.{◌≡◌, ◌≢◌, ℕ, zero, suc, ◌+◌, ◌*◌, ◌-◌, ◌^◌, ◌/◌, ◌%◌, ◌<◌, ◌≤◌, inl, inr, List, length, refl, sym, ◌∙◌, ap, subst, arith}
+use Rattle.std.specs.Prelude.{Bool, true, false, not, ◌&&◌, ◌||◌, nat_le, ◌==◌, nat_lt, if◌then◌else◌, IsTrue, Contains, map, filter, replicate}
+use Rattle.std.proofs.lemmas.Bool.{cases_eq, eq-eqb, ne_eqb}
 use Rattle.qx_fields.specs.Number.{field}
 use Rattle.std.specs.List.{list_any, range_with_len}
 use Rattle.qx_geom.specs.Layout.{levels_for}
 use Rattle.qx_geom.specs.Lists.{each_below, is_in}
 use Rattle.qx_geom.specs.Pointer.{absent, per_block}
-use Rattle.qx_geom.specs.Positions.{Shape, shape_after}
+use Rattle.qx_geom.specs.Positions.{shape_after}
 use Rattle.qx_geom.proofs.Truths.{not_so, true_or_false}
-use Rattle.qx_nodes.specs.BlockMap.{BlockMap, with_bytes, word}
-use Rattle.qx_nodes.specs.Content.{bytes_at_leaf, leaf_bytes}
+use Rattle.qx_nodes.specs.BlockMap.{BlockMap, word}
+use Rattle.qx_nodes.specs.Content.{leaf_bytes}
 use Rattle.qx_nodes.specs.ForeignNodes.{has_bare_block, has_leaf_below, has_strays, is_foreign_node, is_stray_under}
 use Rattle.qx_nodes.specs.Leaves.{leaves_below}
 use Rattle.qx_nodes.specs.Visits.{Visit, is_leaf, present_of, visits_of}
 use Rattle.qx_nodes.proofs.VisitLocality.{visits_local}
 use Rattle.qx_blocks.specs.BlockState.{BlockState, IsConsistent}
-use Rattle.qx_blocks.specs.Calls.{Keeps}
 use Rattle.qx_ptree.specs.declared.fresh_blocks.Plan.{Plan}
-use Rattle.qx_ptree.specs.Alterations.{shape_in}
 use Rattle.qx_ptree.specs.Fates.{IsChange, written_by}
 use Rattle.qx_ptree.specs.Plans.{IsPlan, alteration_in, planned_pointer}
 use Rattle.qx_ptree.specs.Takings.{Takes}
-use Rattle.qx_ptree.specs.Trees.{HasLevels, IsRegular, IsWorking, block_map, pointer_at, pointer_from}
+use Rattle.qx_ptree.specs.Trees.{HasLevels, IsWorking, block_map, pointer_from}
 use Rattle.qx_ptree.proofs.LeavesByPointer.{AllNumbers, bytes_by_pointer, bytes_of_hole}
 use Rattle.qx_ptree.proofs.PointerCounts.{words_positive}
 use Rattle.qx_ptree.proofs.PlannedPointers.{IsToldPlan, planned_leads}
 use Rattle.qx_ptree.proofs.PointersByPosition.{at_from, from_step}
-use Rattle.qx_ptree.proofs.WorkingPaths.{works_there}
 
 -- ---- truths
 

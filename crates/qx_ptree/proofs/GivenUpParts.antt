@@ -1,6 +1,6 @@
 -- The blocks of a part of a node, as they are noted to be given up.
-use Rattle.std.proofs.Common.{◌≡◌, ◌≢◌, ℕ, zero, suc, ◌+◌, ◌*◌, ◌-◌, ◌^◌, ◌/◌, ◌<◌, ◌≤◌, ◌⊎◌, inl, inr, List, [], ◌∷◌, ◌++◌, length, append-nil, append_assoc, refl, sym, ◌∙◌, ap, subst, arith}
-use Rattle.std.specs.Prelude.{Bool, true, false, not, ◌==◌, IsTrue, Result, Ok, Err, OnOk}
+use Rattle.std.proofs.Common.{◌≡◌, ◌≢◌, ℕ, zero, suc, ◌+◌, ◌*◌, ◌-◌, ◌^◌, ◌<◌, ◌≤◌, ◌⊎◌, inl, inr, List, [], ◌∷◌, ◌++◌, length, append-nil, append_assoc, refl, sym, ◌∙◌, ap, subst, arith}
+use Rattle.std.specs.Prelude.{true, false, not, IsTrue, Result, Ok, Err, OnOk}
 use Rattle.std.specs.Result.{IsErr}
 use Rattle.std.proofs.Math.Nat.{mul-le-mul_right}
 use Rattle.std.proofs.Math.Numerals.{sub-one}
@@ -13,7 +13,7 @@ use Rattle.qx_blocks.specs.declared.blocks.Stop.{Stop}
 use Rattle.qx_blocks.specs.BlockState.{BlockState, IsConsistent}
 use Rattle.qx_blocks.specs.Calls.{Keeps}
 use Rattle.qx_ptree.specs.declared.fresh_blocks.Plan.{Plan}
-use Rattle.qx_ptree.specs.Building.{GivesUp, IsBlocksOf, LiesOnSpine, LiesOutside, LiesUnder, one_block, with_released}
+use Rattle.qx_ptree.specs.Building.{GivesUp, IsBlocksOf, LiesUnder, one_block, with_released}
 use Rattle.qx_ptree.specs.Parts.{has_below}
 use Rattle.qx_ptree.specs.Plans.{InReach, IsPlan, alteration_in, planned_pointer}
 use Rattle.qx_ptree.specs.Trees.{Leads, block_map}
@@ -23,7 +23,7 @@ use Rattle.qx_ptree.proofs.PlannedPointers.{IsToldPlan, planned_above, planned_b
 use Rattle.qx_ptree.proofs.PointerCounts.{words_positive}
 use Rattle.qx_ptree.proofs.PointersByPosition.{at_above}
 use Rattle.qx_ptree.proofs.QuietParts.{none_below_block, not_there}
-use Rattle.qx_ptree.proofs.UnderRows.{none_under, own_under, row_before, row_last, row_more, under_own, under_words, words_under}
+use Rattle.qx_ptree.proofs.UnderRows.{own_under, row_before, row_last, row_more, under_own, under_words, words_under}
 
 -- ---- lists of blocks
 

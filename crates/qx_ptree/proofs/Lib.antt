@@ -25,7 +25,6 @@ pub mod KeptPlans
 pub mod PlannedParts
 pub mod EmptyNodes
 pub mod UnderRows
-pub mod PointerArrays
 pub mod DistinctBlocks
 pub mod OwnedPositions
 pub mod ReachedRows

@@ -1,6 +1,6 @@
 -- The work at one position of a node.
-use Rattle.std.proofs.Common.{◌≡◌, ◌≢◌, ℕ, zero, suc, ◌+◌, ◌-◌, ◌<◌, ◌≤◌, inl, inr, List, [], ◌∷◌, length, refl, sym, ◌∙◌, ap, subst, arith}
-use Rattle.std.specs.Prelude.{Bool, true, false, not, ◌&&◌, ◌||◌, ◌==◌, if◌then◌else◌, nat_lt, Contains}
+use Rattle.std.proofs.Common.{◌≡◌, ◌≢◌, ℕ, ◌<◌, ◌≤◌, inl, inr, List, [], ◌∷◌, length, refl, sym, ◌∙◌, ap, arith}
+use Rattle.std.specs.Prelude.{Bool, true, false, not, ◌&&◌, ◌||◌, if◌then◌else◌, Contains}
 use Rattle.std.proofs.lemmas.Bool.{cases_lt, eq-eqb, le-ltb}
 use Rattle.qx_geom.specs.Lists.{is_in}
 use Rattle.qx_geom.specs.Pointer.{absent}
@@ -13,12 +13,11 @@ use Rattle.qx_blocks.specs.BlockState.{BlockState}
 use Rattle.qx_ptree.specs.declared.fresh_blocks.Plan.{Plan}
 use Rattle.qx_ptree.specs.Altered.{keeps_block, takes_fresh}
 use Rattle.qx_ptree.specs.Alterations.{Alteration}
-use Rattle.qx_ptree.specs.Building.{Builds, IsFreshPosition, IsPlaced, is_kept, loses_block, new_pointer, one_block, work_edited, work_kept, work_lost, work_moved, work_taken}
-use Rattle.qx_ptree.specs.Parts.{fresh_below, has_below, own_need}
+use Rattle.qx_ptree.specs.Building.{IsPlaced, is_kept, loses_block, work_edited, work_kept, work_lost, work_moved, work_taken}
+use Rattle.qx_ptree.specs.Parts.{has_below, own_need}
 use Rattle.qx_ptree.specs.Plans.{alteration_in, planned_pointer}
 use Rattle.qx_ptree.specs.Trees.{block_map}
 use Rattle.qx_ptree.specs.WorkState.{EditState, WorkState, no_work}
-use Rattle.qx_ptree.proofs.BuiltRows.{sum_one}
 use Rattle.qx_ptree.proofs.OwnPositions.{had-below}
 use Rattle.qx_ptree.proofs.PlannedPointers.{IsToldPlan, planned_position}
 use Rattle.qx_ptree.proofs.PointersByPosition.{at_above}

@@ -1,6 +1,6 @@
 -- What the calls of a preparation add to the work, part by part.
-use Rattle.std.proofs.Common.{◌≡◌, ◌≢◌, ℕ, zero, suc, ◌+◌, ◌*◌, ◌-◌, ◌^◌, ◌<◌, ◌≤◌, ◌⊎◌, inl, inr, List, [], ◌∷◌, ◌++◌, append-nil, length, set, take, refl, sym, ◌∙◌, ap, subst, arith}
-use Rattle.std.specs.Prelude.{Bool, true, false, not, ◌||◌, ◌==◌, IsTrue, Result, Ok, slice_index}
+use Rattle.std.proofs.Common.{◌≡◌, ◌≢◌, ℕ, zero, suc, ◌+◌, ◌*◌, ◌-◌, ◌^◌, ◌<◌, ◌≤◌, ◌⊎◌, inl, inr, List, ◌++◌, append-nil, length, set, take, refl, sym, ◌∙◌, ap, subst, arith}
+use Rattle.std.specs.Prelude.{Bool, true, false, not, ◌||◌, ◌==◌, IsTrue, Ok, slice_index}
 use Rattle.std.specs.Int.{div_ceil}
 use Rattle.std.proofs.Math.Nat.{pow-zero}
 use Rattle.std.proofs.Math.Numerals.{sub-one}
@@ -11,7 +11,6 @@ use Rattle.qx_geom.specs.Pointer.{absent, per_block}
 use Rattle.qx_geom.specs.Touch.{changed_leaves}
 use Rattle.qx_geom.proofs.Truths.{not_so, true_or_false}
 use Rattle.qx_nodes.proofs.MetLeaves.{present_ascends}
-use Rattle.qx_blocks.specs.declared.blocks.Stop.{Stop}
 use Rattle.qx_blocks.specs.BlockState.{BlockState, IsConsistent}
 use Rattle.qx_blocks.specs.Calls.{Keeps}
 use Rattle.qx_ptree.specs.declared.change.Fate.{Fate}
@@ -19,13 +18,13 @@ use Rattle.qx_ptree.specs.declared.change.Fate.TheVariants.{Stays, Written, Goes
 use Rattle.qx_ptree.specs.declared.fresh_blocks.Plan.{Plan}
 use Rattle.qx_ptree.specs.declared.part.Part.{Part}
 use Rattle.qx_ptree.specs.Alterations.{Alteration, shape_in}
-use Rattle.qx_ptree.specs.Building.{BlockWork, Builds, BuildsOnto, GivesUp, IsBlocksOf, LeafWork, LiesUnder, Row, WritesBlock, WritesLeaf, one_block, with_released}
+use Rattle.qx_ptree.specs.Building.{BlockWork, Builds, BuildsOnto, GivesUp, LeafWork, LiesUnder, Row, WritesBlock, WritesLeaf, one_block, with_released}
 use Rattle.qx_ptree.specs.Fates.{fate_of, leaves_after}
 use Rattle.qx_ptree.specs.Parts.{has_below, leaf_part, part_of}
 use Rattle.qx_ptree.specs.Plans.{IsPlan, alteration_in, planned_pointer}
 use Rattle.qx_ptree.specs.Takings.{Adds, Takes}
-use Rattle.qx_ptree.specs.Trees.{Leads, block_map}
-use Rattle.qx_ptree.specs.WorkState.{WorkState, and_then, no_work}
+use Rattle.qx_ptree.specs.Trees.{block_map}
+use Rattle.qx_ptree.specs.WorkState.{WorkState, no_work}
 use Rattle.qx_ptree.proofs.AddedWork.{CanEdit-none, adds_none, adds_then, nothing_in}
 use Rattle.qx_ptree.proofs.AlikeParts.{AllFare, part-unwritten}
 use Rattle.qx_ptree.proofs.BuiltBlocks.{builds_leaf}
@@ -35,7 +34,7 @@ use Rattle.qx_ptree.proofs.CarriedPlans.{carried, held_after}
 use Rattle.qx_ptree.proofs.KeptPlans.{told_before}
 use Rattle.qx_ptree.proofs.LeafParts.{part-leaf}
 use Rattle.qx_ptree.proofs.OwnPositions.{below-up}
-use Rattle.qx_ptree.proofs.PlannedPointers.{IsToldPlan, planned_above, planned_below, planned_lead}
+use Rattle.qx_ptree.proofs.PlannedPointers.{IsToldPlan, planned_above, planned_below}
 use Rattle.qx_ptree.proofs.PointerCounts.{size_positive, words_positive}
 use Rattle.qx_ptree.proofs.PointersByPosition.{at_above}
 use Rattle.qx_ptree.proofs.QuietParts.{builds_gone, builds_quiet}

@@ -1,6 +1,6 @@
 -- The part of a node below a block where nothing changes, or where nothing is left.
-use Rattle.std.proofs.Common.{◌≡◌, ◌≢◌, ℕ, zero, suc, ◌+◌, ◌*◌, ◌-◌, ◌^◌, ◌/◌, ◌%◌, ◌<◌, ◌≤◌, ◌⊎◌, inl, inr, List, [], length, refl, sym, ◌∙◌, ap, subst, arith}
-use Rattle.std.specs.Prelude.{Bool, true, false, not, ◌&&◌, ◌||◌, ◌==◌, if◌then◌else◌, nat_lt}
+use Rattle.std.proofs.Common.{◌≡◌, ◌≢◌, ℕ, zero, suc, ◌+◌, ◌*◌, ◌-◌, ◌^◌, ◌/◌, ◌%◌, ◌≤◌, ◌⊎◌, inl, inr, List, refl, sym, ◌∙◌, ap, subst, arith}
+use Rattle.std.specs.Prelude.{Bool, true, false, not, ◌&&◌, ◌||◌, ◌==◌, if◌then◌else◌}
 use Rattle.std.proofs.Math.Nat.{div-div-eq-div-mul, mod-lt, mul_comm, pow-suc}
 use Rattle.std.proofs.lemmas.Nat.{pow-add}
 use Rattle.std.proofs.lemmas.Bool.{cases_eq, cases_lt, eq-eqb, eqb-true, le-ltb, ne_eqb}
@@ -17,7 +17,7 @@ use Rattle.qx_blocks.specs.BlockState.{BlockState}
 use Rattle.qx_ptree.specs.declared.fresh_blocks.Plan.{Plan}
 use Rattle.qx_ptree.specs.Altered.{keeps_block, takes_fresh}
 use Rattle.qx_ptree.specs.Alterations.{Alteration}
-use Rattle.qx_ptree.specs.Building.{Builds, IsBlocksOf, IsFreshPosition, IsOldPosition, IsPlaced, LiesUnder, Shows, is_kept, loses_block, new_pointer, one_block, pointer_down, with_released}
+use Rattle.qx_ptree.specs.Building.{Builds, IsBlocksOf, IsOldPosition, IsPlaced, LiesUnder, Shows, is_kept, loses_block, one_block, pointer_down, with_released}
 use Rattle.qx_ptree.specs.Parts.{fresh_below, has_below}
 use Rattle.qx_ptree.specs.Plans.{alteration_in, planned_pointer}
 use Rattle.qx_ptree.specs.Trees.{block_map}
@@ -26,10 +26,10 @@ use Rattle.qx_ptree.proofs.BuiltRows.{sum_one}
 use Rattle.qx_ptree.proofs.CarriedBuilds.{position_there}
 use Rattle.qx_ptree.proofs.LeafParts.{in_changed-is}
 use Rattle.qx_ptree.proofs.OwnPositions.{had-above, had-below, same_truth}
-use Rattle.qx_ptree.proofs.PlannedPointers.{IsToldPlan, planned_above, planned_below, planned_position, planned_whole}
+use Rattle.qx_ptree.proofs.PlannedPointers.{IsToldPlan, planned_above, planned_position}
 use Rattle.qx_ptree.proofs.PointerCounts.{words_positive}
 use Rattle.qx_ptree.proofs.PointersByPosition.{at_above, pointer_step}
-use Rattle.qx_ptree.proofs.UnderRows.{far_up, index_under, under_index, under_own, up_index}
+use Rattle.qx_ptree.proofs.UnderRows.{index_under, under_index, under_own}
 
 -- ---- leaves below a block and below one above it
 

@@ -1,6 +1,6 @@
 -- The blocks of a node that don't stand below the first 16 blocks of a level.
-use Rattle.std.proofs.Common.{◌≡◌, ◌≢◌, ℕ, zero, suc, ◌+◌, ◌*◌, ◌-◌, ◌^◌, ◌/◌, ◌<◌, ◌≤◌, ◌⊎◌, inl, inr, List, [], ◌∷◌, ◌++◌, length, refl, sym, ◌∙◌, ap, subst, arith, lit<, pow-add}
-use Rattle.std.specs.Prelude.{IsTrue, Result, Ok, OnOk}
+use Rattle.std.proofs.Common.{◌≡◌, ◌≢◌, ℕ, zero, suc, ◌+◌, ◌*◌, ◌-◌, ◌^◌, ◌/◌, ◌<◌, ◌≤◌, inl, inr, List, [], ◌∷◌, ◌++◌, length, refl, sym, ◌∙◌, ap, subst, arith, pow-add}
+use Rattle.std.specs.Prelude.{IsTrue, Result, Ok}
 use Rattle.std.proofs.Math.Nat.{div-div-eq-div-mul, div-eq_of_lt, div-le_self, one-mul, pow-le-pow_right, pow-suc, pow-zero}
 use Rattle.std.proofs.lemmas.Bool.{cases_eq, cases_lt}
 use Rattle.qx_geom.specs.Pointer.{absent, per_block}
@@ -10,14 +10,14 @@ use Rattle.qx_blocks.specs.BlockState.{BlockState, IsConsistent}
 use Rattle.qx_blocks.specs.declared.blocks.Stop.{Stop}
 use Rattle.qx_blocks.specs.Calls.{Keeps}
 use Rattle.qx_ptree.specs.declared.fresh_blocks.Plan.{Plan}
-use Rattle.qx_ptree.specs.Building.{GivesUp, IsBlocksOf, LiesOnSpine, LiesOutside, LiesUnder, one_block}
+use Rattle.qx_ptree.specs.Building.{GivesUp, IsBlocksOf, LiesOnSpine, LiesOutside, LiesUnder}
 use Rattle.qx_ptree.specs.Plans.{IsPlan, planned_pointer}
 use Rattle.qx_ptree.specs.Trees.{Leads, block_map}
 use Rattle.qx_ptree.specs.WorkState.{WorkState}
 use Rattle.qx_ptree.proofs.BuiltBlocks.{div_first}
 use Rattle.qx_ptree.proofs.GivenUpParts.{absent_under, blocks_join, blocks_none, blocks_one, gives_then, released_none}
 use Rattle.qx_ptree.proofs.KeptPlans.{told_before}
-use Rattle.qx_ptree.proofs.PlannedPointers.{IsToldPlan, planned_lead, planned_whole}
+use Rattle.qx_ptree.proofs.PlannedPointers.{IsToldPlan, planned_lead}
 use Rattle.qx_ptree.proofs.PointerCounts.{words_bounds, words_positive}
 use Rattle.qx_ptree.proofs.PointersByPosition.{at_above, pointer_past, pointer_up}
 use Rattle.qx_ptree.proofs.UnderRows.{own_under, under_own, under_words, words_under}

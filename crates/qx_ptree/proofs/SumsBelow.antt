@@ -82,6 +82,11 @@ sum_by-below f n = sum_from f 0 n ∙ sum_up_to-alike n (λ k. f (0 + k)) f (λ 
 
 -- ---- tests
 
+-- one number more
+pub any_up_to-more : (n : ℕ) (test : ℕ → Bool) → any_up_to (n + 1) test ≡ (any_up_to n test || test n)
+unfolding any_up_to
+any_up_to-more n test = ap (λ k. any_up_to k test) (add-one n)
+
 -- tests that are alike below the bound
 pub any_up_to-alike : (n : ℕ) (f g : ℕ → Bool) → ((k : ℕ) → k < n → f k ≡ g k) → any_up_to n f ≡ any_up_to n g
 unfolding any_up_to

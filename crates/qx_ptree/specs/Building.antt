@@ -1,5 +1,5 @@
 -- What was prepared of an altered node below some blocks of one level.
-use Rattle.std.specs.Prelude.{◌≡◌, ℕ, zero, suc, ◌+◌, ◌-◌, ◌*◌, ◌/◌, ◌%◌, ◌^◌, ◌≤◌, ◌<◌, ◌==◌, Bool, true, false, List, ◌++◌, length, sum_by, IsTrue, Contains, if◌then◌else◌, slice_index, [], ◌∷◌, replicate, Result, OnOk}
+use Rattle.std.specs.Prelude.{◌≡◌, ℕ, zero, suc, ◌+◌, ◌-◌, ◌/◌, ◌%◌, ◌^◌, ◌≤◌, ◌<◌, ◌==◌, Bool, true, false, List, ◌++◌, length, sum_by, IsTrue, Contains, if◌then◌else◌, slice_index, [], ◌∷◌, replicate, Result, OnOk}
 use Rattle.std.specs.List.{range_with_len}
 use Rattle.qx_fields.specs.declared.order.Order.{Order}
 use Rattle.qx_fields.specs.Number.{all_digits}

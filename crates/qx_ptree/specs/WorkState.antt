@@ -1,5 +1,5 @@
 -- What a change has done so far, and what is left to its commit.
-use Rattle.std.specs.Prelude.{◌≡◌, ℕ, ◌+◌, Bool, true, false, ◌||◌, List, [], ◌∷◌, ◌++◌, map, length, IsTrue, Contains, if◌then◌else◌}
+use Rattle.std.specs.Prelude.{◌≡◌, ℕ, true, List, [], ◌∷◌, ◌++◌, length, IsTrue, Contains, if◌then◌else◌}
 use Rattle.qx_geom.specs.Lists.{is_in}
 use Rattle.qx_geom.specs.declared.root.Root.{Root}
 use Rattle.qx_blocks.specs.BlockState.{BlockState, with_bytes, without}

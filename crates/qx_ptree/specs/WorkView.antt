@@ -1,5 +1,5 @@
 -- How the work of a change lies in memory.
-use Rattle.std.specs.Prelude.{List, map}
+use Rattle.std.specs.Prelude.{map}
 use Rattle.qx_ptree.specs.declared.work.Edit.{Edit}
 use Rattle.qx_ptree.specs.declared.work.Work.TheInside.{Inside}
 use Rattle.qx_ptree.specs.WorkState.{EditState, WorkState}

@@ -14,7 +14,6 @@ mod part;
 mod pointers;
 mod prepared;
 mod ready_path;
-mod scratch;
 mod work;
 
 pub use building::prepare;
@@ -23,7 +22,6 @@ pub use fresh_blocks::need;
 pub use leaf_path::leaf;
 pub use prepared::{Prepared, abandon, apart, commit};
 pub use ready_path::ready_leaf;
-pub use scratch::draft;
 
 #[cfg(test)]
 mod tests;

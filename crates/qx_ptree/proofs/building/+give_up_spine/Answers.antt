@@ -1,12 +1,11 @@
-use Rattle.std.proofs.Common.{rules, Ok, ◌≡◌, ◌≢◌, ◌≤◌, ◌<◌, ◌+◌, ◌-◌, ◌*◌, ◌/◌, ◌⊎◌, inl, inr, ℕ, List, drop, length, length-drop, IsTrue, slice_index, arith, refl, sym, ◌∙◌, ap, subst}
-use Rattle.std.proofs.Math.Numerals.{sub-one}
+use Rattle.std.proofs.Common.{rules, Ok, ◌≡◌, ◌≤◌, ◌<◌, ◌+◌, ◌-◌, ◌*◌, ◌/◌, ℕ, List, drop, length, length-drop, IsTrue, slice_index, arith, sym, ◌∙◌, ap, subst}
 use Rattle.std.proofs.lemmas.List.{get_or_append_left}
-use Rattle.qx_geom.specs.Pointer.{absent, per_block}
+use Rattle.qx_geom.specs.Pointer.{per_block}
 use Rattle.qx_blocks.specs.BlockState.{BlockState, IsBlockSize}
 use Rattle.qx_blocks.specs.Calls.{Keeps}
-use Rattle.qx_ptree.specs.Building.{GivesUp, LiesOnSpine, LiesUnder}
-use Rattle.qx_ptree.specs.Plans.{InReach, IsPlan, planned_pointer}
-use Rattle.qx_ptree.proofs.KeptPlans.{kept_consistent, kept_plan, kept_pointer, kept_reach, told_before}
+use Rattle.qx_ptree.specs.Building.{GivesUp, LiesUnder}
+use Rattle.qx_ptree.specs.Plans.{InReach, planned_pointer}
+use Rattle.qx_ptree.proofs.KeptPlans.{kept_plan, kept_pointer, kept_reach, told_before}
 use Rattle.qx_ptree.proofs.PartBounds.{child-reach, top-reach}
 use Rattle.qx_ptree.proofs.PlannedPointers.{planned_lead}
 use Rattle.qx_ptree.proofs.PointerCounts.{words_bounds}

@@ -1,15 +1,14 @@
-use Rattle.std.proofs.Common.{length-set, rules, ◌≡◌, ◌≢◌, ◌≤◌, ◌<◌, ◌+◌, ◌-◌, ◌*◌, ◌/◌, ◌^◌, ◌⊎◌, inl, inr, ℕ, List, set, take, length, IsTrue, slice_index, arith, refl, sym, ◌∙◌, ap, subst}
-use Rattle.std.specs.Prelude.{Bool, true, false, ◌||◌}
+use Rattle.std.proofs.Common.{length-set, rules, ◌≡◌, ◌≤◌, ◌<◌, ◌+◌, ◌-◌, ◌*◌, ◌/◌, ◌^◌, ℕ, List, set, take, length, IsTrue, slice_index, arith, refl, sym, ◌∙◌, ap, subst}
+use Rattle.std.specs.Prelude.{Bool, false, ◌||◌}
 use Rattle.qx_geom.specs.Layout.{levels_for}
-use Rattle.qx_geom.specs.Pointer.{absent, per_block}
+use Rattle.qx_geom.specs.Pointer.{per_block}
 use Rattle.qx_blocks.specs.BlockState.{BlockState}
-use Rattle.qx_blocks.specs.Calls.{Keeps}
 use Rattle.qx_ptree.specs.declared.change.Fate.TheVariants.{Stays, Goes}
 use Rattle.qx_ptree.specs.declared.part.Part.{Part}
 use Rattle.qx_ptree.specs.Building.{BuildsOnto, LiesUnder, one_block}
 use Rattle.qx_ptree.specs.Fates.{leaves_after}
 use Rattle.qx_ptree.specs.Parts.{part_of}
-use Rattle.qx_ptree.specs.Plans.{InReach, IsPlan, alteration_in, planned_pointer}
+use Rattle.qx_ptree.specs.Plans.{InReach, alteration_in, planned_pointer}
 use Rattle.qx_ptree.specs.Reaching.{IsMarked, ReachesOnto}
 use Rattle.qx_ptree.specs.Takings.{Takes}
 use Rattle.qx_ptree.proofs.AddedWork.{adds_none, adds_then}
@@ -166,14 +165,13 @@ prepare_at-requires g t c κs within =
     let takes : Takes f m n = c.loop-w.invariant.built.adds.takes in
     let low : c.loop-w.w < c.size-words.result / 4 = search rules in
     let words : c.size-words.result / 4 ≡ per_block m.holdings.size = ap (λ n. n / 4) c.size-words.ensures.size in
-    let long : length c.pointers_below.new.into ≡ c.size-words.result / 4 = search rules in
-    (
+    let long : length c.pointers_below.new.into ≡ c.size-words.result / 4 = search rules in (
       omega (arith, c.decreases, c.if-level-eq0.false),
       (
         within,
         (
           subst (λ s. InReach s (c.args.level - 1) (c.args.index * (c.size-words.result / 4) + c.loop-w.w)) (sym takes.size)
-          (child-reach m.holdings.size c.args.level c.args.index (c.size-words.result / 4) c.loop-w.w (omega (arith, c.if-level-eq0.false)) c.requires.reach words low),
+              (child-reach m.holdings.size c.args.level c.args.index (c.size-words.result / 4) c.loop-w.w (omega (arith, c.if-level-eq0.false)) c.requires.reach words low),
           (
             subst (λ s. c.args.level - 1 ≤ levels_for s (leaves_after s c.args.plan.now.change)) (sym takes.size) (omega (arith, c.requires.level)),
             (

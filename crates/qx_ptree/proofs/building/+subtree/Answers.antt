@@ -1,10 +1,10 @@
-use Rattle.std.proofs.Common.{rules, ◌≡◌, ◌≢◌, ◌≤◌, ◌<◌, ◌+◌, ◌-◌, ◌*◌, ◌/◌, ◌^◌, ◌⊎◌, inl, inr, ℕ, List, length, IsTrue, slice_index, Ok, arith, mul-le-mul_left, mul-le-mul_right, refl, sym, ◌∙◌, ap, subst}
-use Rattle.qx_geom.specs.Pointer.{absent, per_block}
+use Rattle.std.proofs.Common.{rules, ◌≡◌, ◌≢◌, ◌≤◌, ◌<◌, ◌+◌, ◌-◌, ◌*◌, ◌/◌, ◌^◌, ◌⊎◌, inl, inr, ℕ, length, slice_index, Ok, arith, mul-le-mul_left, mul-le-mul_right, sym, ◌∙◌, ap, subst}
+use Rattle.qx_geom.specs.Pointer.{per_block}
 use Rattle.qx_blocks.specs.BlockState.{BlockState, IsBlockSize}
 use Rattle.qx_blocks.specs.Calls.{Keeps}
-use Rattle.qx_ptree.specs.Building.{GivesUp, IsBlocksOf, LiesUnder, one_block}
-use Rattle.qx_ptree.specs.Plans.{InReach, IsPlan, planned_pointer}
-use Rattle.qx_ptree.proofs.GivenUpParts.{blocks_more, gives_block, gives_err, gives_leaf, gives_none, gives_then, reach_before, released_none}
+use Rattle.qx_ptree.specs.Building.{GivesUp, LiesUnder, one_block}
+use Rattle.qx_ptree.specs.Plans.{InReach, planned_pointer}
+use Rattle.qx_ptree.proofs.GivenUpParts.{blocks_more, gives_block, gives_leaf, gives_none, gives_then, reach_before}
 use Rattle.qx_ptree.proofs.KeptPlans.{kept_consistent, kept_plan, kept_pointer, kept_reach, told_before}
 use Rattle.qx_ptree.proofs.PartBounds.{child-fits, child-reach, power-some}
 use Rattle.qx_ptree.proofs.PlannedPointers.{planned_lead}

@@ -1,9 +1,8 @@
-use Rattle.std.proofs.Common.{rules, ◌≡◌, ◌≤◌, ◌<◌, ◌+◌, ◌-◌, ℕ, List, take, drop, length, IsTrue, slice_index, arith, sym, ◌∙◌, ap, subst, Ok}
+use Rattle.std.proofs.Common.{◌≡◌, ◌<◌, ◌+◌, ◌-◌, ℕ, List, take, drop, length, slice_index, arith, sym, ◌∙◌, ap, subst, Ok}
 use Rattle.std.proofs.lemmas.List.{get_or_default}
 use Rattle.qx_geom.specs.Pointer.{absent, per_block}
 use Rattle.qx_blocks.specs.BlockState.{BlockState}
 use Rattle.qx_ptree.specs.Building.{GivesUp, LiesUnder}
-use Rattle.qx_ptree.specs.Plans.{planned_pointer}
 use Rattle.qx_ptree.specs.Trees.{block_map}
 use Rattle.qx_ptree.proofs.PartBounds.{top-reach}
 use Rattle.qx_ptree.proofs.PointersByPosition.{pointer_top}

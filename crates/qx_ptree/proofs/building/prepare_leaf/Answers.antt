@@ -1,11 +1,9 @@
-use Rattle.std.proofs.Common.{◌≡◌, ◌⊎◌, inl, IsTrue, arith, refl, sym, ap}
+use Rattle.std.proofs.Common.{inl, arith, refl, sym, ap}
 use Rattle.qx_geom.specs.Pointer.{per_block}
 use Rattle.qx_blocks.specs.BlockState.{BlockState}
-use Rattle.qx_ptree.specs.declared.change.Fate.{Fate}
 use Rattle.qx_ptree.specs.declared.change.Fate.TheVariants.{Stays, Written, Goes}
 use Rattle.qx_ptree.specs.declared.part.Part.{Part}
 use Rattle.qx_ptree.specs.Building.{LiesUnder, one_block}
-use Rattle.qx_ptree.specs.Fates.{fate_of, leaves_after}
 use Rattle.qx_ptree.proofs.KeptPlans.{told_before}
 use Rattle.qx_ptree.proofs.PreparedBlocks.{at_err}
 use Rattle.qx_ptree.proofs.PreparedParts.{adds_given, fare_one, fare_part, fate_here, gone_onto, leaf_onto, quiet_onto, written_part}
