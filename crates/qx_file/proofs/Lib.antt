@@ -1,0 +1,10 @@
+pub mod KeptPointers
+pub mod PutLeaves
+pub mod PartBytes
+pub mod ReadBytes
+pub mod PlannedChanges
+pub mod AgreeingPointers
+pub mod PutContent
+pub mod EmptyFiles
+pub mod SameBlocks
+pub mod CommittedFiles

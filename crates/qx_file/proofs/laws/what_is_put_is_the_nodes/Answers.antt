@@ -1,0 +1,8 @@
+use Rattle.qx_file.proofs.PutContent.{byte_put_after, byte_stays_after}
+use Rattle.qx_file.proofs.laws.what_is_put_is_the_nodes.Goals as goal
+
+pub returns-clause-put : goal.returns-clause-put
+returns-clause-put c = λ order m n node at k bytes s can once puts from to. byte_put_after order m n node at bytes s can once puts k from to
+
+pub returns-clause-stays : goal.returns-clause-stays
+returns-clause-stays c = λ order m n node at k bytes s can once puts low out. byte_stays_after order m n node at bytes s can once puts k low out

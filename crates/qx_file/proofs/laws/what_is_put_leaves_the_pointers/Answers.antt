@@ -1,0 +1,17 @@
+use Rattle.qx_ptree.specs.ReadyLeaves.{IsWrittenBy}
+use Rattle.qx_file.proofs.KeptPointers.{ready_kept}
+use Rattle.qx_file.proofs.PutContent.{regular_after, visits_after, works_after}
+use Rattle.qx_file.proofs.laws.what_is_put_leaves_the_pointers.Goals as goal
+
+pub returns-clause-visits : goal.returns-clause-visits
+returns-clause-visits c = λ order m n node at bytes s can once puts. visits_after order m n node at bytes s can once puts
+
+pub returns-clause-works : goal.returns-clause-works
+returns-clause-works c = λ order m n node at bytes s can once puts works. works_after order m n node at bytes s can once puts works
+
+pub returns-clause-regular : goal.returns-clause-regular
+returns-clause-regular c = λ order m n node at bytes s can puts works regular. regular_after order m n node at bytes s can regular.apart puts works regular
+
+pub returns-clause-ready : goal.returns-clause-ready
+returns-clause-ready c = λ order m n node change at bytes within puts ready.
+    ready_kept order m n node (IsWrittenBy change) ready puts.holdings (λ b out. puts.others b (λ i has. out i (within i has)))

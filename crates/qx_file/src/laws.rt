@@ -1,0 +1,78 @@
+//! Laws of planned changes, and of what is put.
+ghost use Rattle.std.specs.Prelude.{◌≡◌, ℕ, ◌+◌, ◌-◌, ◌*◌, ◌<◌, ◌≤◌, ◌⊎◌, ◌↔◌, Bool, true, false, List, length, slice_index, IsTrue};
+ghost use Rattle.qx_fields.specs.declared.order.Order.{Order};
+ghost use Rattle.qx_geom.specs.declared.root.Root.{Root};
+ghost use Rattle.qx_geom.specs.Layout.{is_block_size};
+ghost use Rattle.qx_geom.specs.Pointer.{reach};
+ghost use Rattle.qx_nodes.specs.Content.{byte_of};
+ghost use Rattle.qx_nodes.specs.Visits.{visits_of};
+ghost use Rattle.qx_blocks.specs.BlockState.{BlockState, IsBlockSize, IsConsistent};
+ghost use Rattle.qx_ptree.specs.declared.change.Change.{Change};
+ghost use Rattle.qx_ptree.specs.Fates.{IsChange, is_written};
+ghost use Rattle.qx_ptree.specs.ReadyLeaves.{IsReadyApart, IsWrittenBy};
+ghost use Rattle.qx_ptree.specs.Trees.{HasLevels, IsRegular, IsWorking, block_map};
+ghost use Rattle.qx_file.specs.FilePlans.{cuts_leaf, greatest_end, past_end, size_change, write_change};
+ghost use Rattle.qx_file.specs.Puts.{CanPut, HasByte, MeetsOnce, Puts, leaves_end};
+
+/// A planned write is a change that can be prepared. It writes the leaves that have one of the bytes, and these lie below its size.
+pub fn a_planned_write_writes_its_leaves()
+    ensures change { (node : Root) (at count blocksize : ℕ) → IsTrue (is_block_size blocksize) → 0 < count → node.size ≤ reach blocksize 5 * blocksize → at + count ≤ greatest_end
+        → IsChange blocksize (write_change node at count blocksize) }
+    ensures written { (node : Root) (at count blocksize i : ℕ) → IsTrue (is_block_size blocksize) → 0 < count
+        → is_written (write_change node at count blocksize) i ≡ true ↔ HasByte blocksize at count i }
+    ensures below { (node : Root) (at count blocksize : ℕ) → IsTrue (is_block_size blocksize)
+        → at + count ≤ leaves_end blocksize (write_change node at count blocksize).size }
+
+    // Once it is committed, where the node has become `root`, the bytes can be put.
+    ensures can { (order : Order) (m : BlockState) (node root : Root) (at count : ℕ) → IsBlockSize m.holdings.size → 0 < count → HasLevels m.holdings.size root → root.size ≡ (write_change node at count m.holdings.size).size
+        → IsReadyApart order m root (IsWrittenBy (write_change node at count m.holdings.size)) → CanPut order m root at count }
+{}
+
+/// So is a planned size. Where the file is cut within a leaf, it writes the leaf that has the bytes past the end, and no other.
+pub fn a_planned_size_writes_the_cut_leaf()
+    ensures change { (node : Root) (size blocksize : ℕ) (last_present : Bool) → IsTrue (is_block_size blocksize) → size ≤ greatest_end
+        → IsChange blocksize (size_change node size last_present blocksize) }
+    ensures written { (node : Root) (size blocksize i : ℕ) (last_present : Bool) → IsTrue (is_block_size blocksize) → cuts_leaf node size last_present blocksize ≡ true
+        → is_written (size_change node size last_present blocksize) i ≡ true ↔ HasByte blocksize size (past_end blocksize size) i }
+    ensures none { (node : Root) (size blocksize i : ℕ) (last_present : Bool) → cuts_leaf node size last_present blocksize ≡ false
+        → is_written (size_change node size last_present blocksize) i ≡ false }
+    ensures below { (node : Root) (size blocksize : ℕ) (last_present : Bool) → IsTrue (is_block_size blocksize) → cuts_leaf node size last_present blocksize ≡ true
+        → size + past_end blocksize size ≤ leaves_end blocksize size }
+
+    // Once it is committed, the bytes past the end can be put.
+    ensures can { (order : Order) (m : BlockState) (node root : Root) (size : ℕ) (last_present : Bool) → IsBlockSize m.holdings.size → cuts_leaf node size last_present m.holdings.size ≡ true → HasLevels m.holdings.size root → root.size ≡ size
+        → IsReadyApart order m root (IsWrittenBy (size_change node size last_present m.holdings.size)) → CanPut order m root size (past_end m.holdings.size size) }
+{}
+
+/// A file ends in its last leaf, or where that ends.
+pub fn a_file_ends_in_its_last_leaf()
+    ensures { (blocksize size : ℕ) → 0 < blocksize → size ≤ leaves_end blocksize size }
+{}
+
+/// Bytes that were put are the node's where they were put, and all others, also those past its size, are as they were.
+pub fn what_is_put_is_the_nodes()
+    ensures put { (order : Order) (m n : BlockState) (node : Root) (at k : ℕ) (bytes : List ℕ) → IsConsistent m → CanPut order m node at (length bytes) → MeetsOnce order m node → Puts order node at bytes m n
+        → at ≤ k → k < at + length bytes → byte_of (block_map order n) node k ≡ slice_index bytes (k - at) }
+    ensures stays { (order : Order) (m n : BlockState) (node : Root) (at k : ℕ) (bytes : List ℕ) → IsConsistent m → CanPut order m node at (length bytes) → MeetsOnce order m node → Puts order node at bytes m n
+        → k < leaves_end m.holdings.size node.size → (k < at) ⊎ (at + length bytes ≤ k) → byte_of (block_map order n) node k ≡ byte_of (block_map order m) node k }
+{}
+
+/// What a node meets stays, and what is asked of a node holds as it did.
+pub fn what_is_put_leaves_the_pointers()
+    ensures visits { (order : Order) (m n : BlockState) (node : Root) (at : ℕ) (bytes : List ℕ) → IsConsistent m → CanPut order m node at (length bytes) → MeetsOnce order m node → Puts order node at bytes m n
+        → visits_of (block_map order n) node ≡ visits_of (block_map order m) node }
+    ensures works { (order : Order) (m n : BlockState) (node : Root) (at : ℕ) (bytes : List ℕ) → IsConsistent m → CanPut order m node at (length bytes) → MeetsOnce order m node → Puts order node at bytes m n
+        → IsWorking order m node → IsWorking order n node }
+    ensures regular { (order : Order) (m n : BlockState) (node : Root) (at : ℕ) (bytes : List ℕ) → IsConsistent m → CanPut order m node at (length bytes) → Puts order node at bytes m n
+        → IsWorking order m node → IsRegular order m node → IsRegular order n node }
+
+    // Also where bytes aren't told, the leaves that a change wrote stay ready apart.
+    ensures ready { (order : Order) (m n : BlockState) (node : Root) (c : Change) (at : ℕ) (bytes : List ℕ) → ((i : ℕ) → HasByte m.holdings.size at (length bytes) i → is_written c i ≡ true) → Puts order node at bytes m n
+        → IsReadyApart order m node (IsWrittenBy c) → IsReadyApart order n node (IsWrittenBy c) }
+{}
+
+/// Once a change is committed, bytes in leaves that it wrote can be put, in as many pieces as one likes.
+pub fn bytes_in_written_leaves_can_be_put()
+    ensures { (order : Order) (m : BlockState) (node : Root) (c : Change) (at count : ℕ) → HasLevels m.holdings.size node → at + count ≤ leaves_end m.holdings.size node.size
+        → ((i : ℕ) → HasByte m.holdings.size at count i → is_written c i ≡ true) → IsReadyApart order m node (IsWrittenBy c) → CanPut order m node at count }
+{}

@@ -1,0 +1,4 @@
+//! Plans of changes, and bytes that are put and read.
+mod leaves;
+mod plans;
+mod written;
