@@ -53,3 +53,5 @@ pub mod WrittenEdits
 pub mod AddedWork
 pub mod PreparedBlocks
 pub mod ReadyPaths
+pub mod ReachedLeaves
+pub mod FirstHoles

@@ -12,3 +12,4 @@ pub mod Building
 pub mod BuiltNode
 pub mod ReadyLeaves
 pub mod Reaching
+pub mod Holes

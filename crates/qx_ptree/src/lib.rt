@@ -9,6 +9,7 @@
 mod building;
 mod change;
 mod fresh_blocks;
+mod holes;
 mod leaf_path;
 mod part;
 mod pointers;
@@ -19,6 +20,7 @@ mod work;
 pub use building::prepare;
 pub use change::Change;
 pub use fresh_blocks::need;
+pub use holes::first_hole;
 pub use leaf_path::leaf;
 pub use prepared::{Prepared, abandon, apart, commit};
 pub use ready_path::ready_leaf;

@@ -1,0 +1,3 @@
+mod ShortNames
+mod AbsentNumbers
+mod PlannedNames

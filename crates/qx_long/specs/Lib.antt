@@ -1,0 +1,2 @@
+pub mod LongNames
+pub mod NamePlans

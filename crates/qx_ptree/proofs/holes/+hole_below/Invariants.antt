@@ -1,0 +1,23 @@
+use Rattle.std.proofs.Common.{◌≡◌, ◌≤◌, ◌+◌, ◌*◌, ◌-◌, ◌^◌, IsTrue}
+use Rattle.qx_geom.specs.Pointer.{per_block}
+use Rattle.qx_nodes.specs.Visits.{present_of}
+use Rattle.qx_blocks.specs.Calls.{Keeps}
+use Rattle.qx_ptree.specs.Holes.{HasEach}
+use Rattle.qx_ptree.specs.Trees.{block_map}
+use Rattle.qx_ptree.proofs.holes.+hole_below.Given as goal
+
+abbrev pub decreases-hole_below : goal.decreases-hole_below
+decreases-hole_below g l = l.level
+
+-- the leaves below the words so far are present
+abbrev pub invariant-loop-w : goal.invariant-loop-w
+invariant-loop-w g l =
+    let m = g.B.Blocks.state l.fn.blocks in
+    let b = m.holdings.size in
+    record {
+      each : IsTrue (g.B.Blocks.state l.blocks).tells → HasEach (present_of (block_map l.order m) l.node) (l.index * per_block b ^ l.level) ((l.index * per_block b + l.w) * per_block b ^ (l.level - 1));
+      told : IsTrue (g.B.Blocks.state l.blocks).tells → IsTrue (g.B.Blocks.state l.initial.blocks).tells;
+      keeps : Keeps m (g.B.Blocks.state l.blocks);
+      aside : g.B.Blocks.aside l.blocks ≡ g.B.Blocks.aside l.fn.blocks;
+      faults : g.B.Blocks.faults l.fn.blocks ≤ g.B.Blocks.faults l.blocks;
+    }

@@ -1,0 +1,18 @@
+use Rattle.std.proofs.Common.{◌≡◌, ◌≤◌, ◌*◌, ◌^◌, IsTrue}
+use Rattle.qx_geom.specs.Pointer.{per_block}
+use Rattle.qx_nodes.specs.Visits.{present_of}
+use Rattle.qx_blocks.specs.Calls.{Keeps}
+use Rattle.qx_ptree.specs.Holes.{HasEach}
+use Rattle.qx_ptree.specs.Trees.{block_map}
+use Rattle.qx_ptree.proofs.holes.first_hole.Given as goal
+
+-- the leaves below the pointers so far are present
+abbrev pub invariant-loop-j : goal.invariant-loop-j
+invariant-loop-j g l =
+    let m = g.B.Blocks.state l.fn.blocks in
+    record {
+      each : IsTrue (g.B.Blocks.state l.blocks).tells → HasEach (present_of (block_map l.order m) l.node) 0 (l.j * per_block m.holdings.size ^ l.node.levels);
+      keeps : Keeps m (g.B.Blocks.state l.blocks);
+      aside : g.B.Blocks.aside l.blocks ≡ g.B.Blocks.aside l.fn.blocks;
+      faults : g.B.Blocks.faults l.fn.blocks ≤ g.B.Blocks.faults l.blocks;
+    }
