@@ -87,7 +87,8 @@ fn part_at<B: Blocks>(
         return Ok(part_of_leaf(blocks, plan, index, pointer));
     }
     let words = blocks.size() / 4;
-    let pointers = all_below(blocks, plan, level, index, pointer)?;
+    let mut pointers = [ABSENT; 1024];
+    pointers_below(blocks, plan, level, index, pointer, &mut pointers[0..words])?;
     let mut part = Part {
         need: 0,
         changed: false,
@@ -100,32 +101,6 @@ fn part_at<B: Blocks>(
     let private = blocks.is_private(pointer);
     part.need += own_need(pointer != ABSENT, private, part.changed, part.present);
     Ok(part)
-}
-
-// The pointers to the blocks below block `index` of a level, with absent ones behind them.
-fn all_below<B: Blocks>(
-    blocks: &mut B,
-    plan: &Plan,
-    level: u8,
-    index: u64,
-    pointer: u32,
-) -> Result<[u32; 1024], Stop>
-    requires level { 0 < level }
-    requires consistent { IsConsistent (B.state blocks.old) }
-    requires plan { IsPlan (B.state blocks.old) plan.now }
-    requires pointer { IsTrue (B.state blocks.old).tells → pointer ≡ planned_pointer plan.now (B.state blocks.old) level index }
-    ensures long { IfOk result (λ below. length below ≡ 1024) }
-    ensures pointers { IfOk result (λ below. IsTrue (B.state blocks.new).tells → (w : ℕ) → w < per_block (B.state blocks.old).holdings.size
-        → slice_index below w ≡ planned_pointer plan.now (B.state blocks.old) (level - 1) (index * per_block (B.state blocks.old).holdings.size + w)) }
-
-    ensures keeps { Keeps (B.state blocks.old) (B.state blocks.new) }
-    ensures aside { B.Blocks.aside blocks.new ≡ B.Blocks.aside blocks.old }
-    ensures cause { HasStopCause (B.faults blocks.old) (B.faults blocks.new) result }
-{
-    let words = blocks.size() / 4;
-    let mut pointers = [ABSENT; 1024];
-    pointers_below(blocks, plan, level, index, pointer, &mut pointers[0..words])?;
-    Ok(pointers)
 }
 
 // The part of a leaf.

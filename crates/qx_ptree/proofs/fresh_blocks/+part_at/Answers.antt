@@ -1,6 +1,5 @@
 use Rattle.std.proofs.Common.{◌≡◌, ◌≤◌, ◌<◌, ◌+◌, ◌-◌, ◌*◌, ◌/◌, ◌^◌, ◌∙◌, ℕ, arith, rules, sym, ap, subst}
-use Rattle.std.proofs.lemmas.List.{get_or-take}
-use Rattle.std.specs.Prelude.{IsTrue, not, ◌==◌}
+use Rattle.std.specs.Prelude.{IsTrue, not, ◌==◌, length, slice_index}
 use Rattle.qx_geom.specs.Layout.{levels_for}
 use Rattle.qx_geom.specs.Pointer.{absent, per_block}
 use Rattle.qx_geom.specs.Positions.{Shape, has_position}
@@ -18,6 +17,7 @@ use Rattle.qx_ptree.proofs.PartBounds.{child-fits, child-reach, few-all, few-fit
 use Rattle.qx_ptree.proofs.PlannedParts.{followed}
 use Rattle.qx_ptree.proofs.PlannedPointers.{IsToldPlan, planned_position}
 use Rattle.qx_ptree.proofs.PointerCounts.{words_positive}
+use Rattle.qx_ptree.proofs.RowSlices.{of_part}
 use Rattle.qx_ptree.proofs.fresh_blocks.+part_at.Goals as goal
 
 pub alike_part-requires-clause-pointer : goal.alike_part-requires-clause-pointer
@@ -35,8 +35,8 @@ pub returns-then-level-eq0-clause-part : goal.returns-then-level-eq0-clause-part
 returns-then-level-eq0-clause-part g t c told le =
     c.part_of_leaf.ensures.part told ∙ sym (ap (λ k. part_of (alteration_in c.args.plan.now (g.B.Blocks.state c.args.blocks.now)) k c.args.index) c.if-level-eq0.true)
 
-pub all_below-requires-clause-pointer : goal.all_below-requires-clause-pointer
-all_below-requires-clause-pointer g t c told =
+pub pointers_below-requires-clause-pointer : goal.pointers_below-requires-clause-pointer
+pointers_below-requires-clause-pointer g t c told =
     followed (g.B.Blocks.state c.args.blocks.now) c.args.plan.now c.args.level c.args.index c.args.pointer c.leading-pointer.result
     (record { consistent = c.leading-pointer.ensures.consistent; long = c.requires.long; met = c.requires.plan; told = told }) (c.requires.pointer told) c.leading-pointer.ensures.same
 
@@ -51,6 +51,7 @@ part_at-requires g t c κs within =
     let m : BlockState = g.B.Blocks.state c.args.blocks.now in
     let mid : BlockState = g.B.Blocks.state c.loop-w.blocks in
     let low : c.loop-w.w < c.size-words.result / 4 = omega (arith, c.loop-w-test.true) in
+    let long : length c.pointers_below.new.into ≡ c.size-words.result / 4 = search rules in
     let reach = child-reach m.holdings.size c.args.level c.args.index (c.size-words.result / 4) c.loop-w.w (omega (arith, c.if-level-eq0.false)) c.requires.reach (ap (λ n. n / 4) c.size-words.ensures.size) low in (
       omega (arith, c.decreases, c.if-level-eq0.false),
       (
@@ -62,8 +63,8 @@ part_at-requires g t c κs within =
             (
               c.requires.long,
               λ told.
-                  get_or-take (c.size-words.result / 4 - 0) c.in_ok-pointers.pointers c.loop-w.w 0 (omega (arith, low))
-                  ∙ c.in_ok-pointers.ensures.pointers (c.loop-w.invariant.told told) c.loop-w.w (omega (arith, low, ap (λ n. n / 4) c.size-words.ensures.size))
+                  of_part (λ xs. slice_index xs c.loop-w.w ≡ planned_pointer c.args.plan.now m (c.args.level - 1) (c.args.index * per_block m.holdings.size + c.loop-w.w)) (c.size-words.result / 4) c.pointers_below.new.into _ long
+                      (c.in_ok-pointers_below.ensures.pointers (c.loop-w.invariant.told told) c.loop-w.w (omega (arith, low, long)))
                   ∙ (λ i. planned_pointer c.args.plan.now (sym (c.loop-w.invariant.keeps.told told) i) (c.args.level - 1) (c.args.index * (sym (ap (λ n. n / 4) c.size-words.ensures.size) i) + c.loop-w.w)),
             ),
           ),
@@ -75,7 +76,7 @@ pub beside-part-requires : goal.beside-part-requires
 beside-part-requires g t c =
     let b : ℕ = (g.B.Blocks.state c.args.blocks.now).holdings.size in
     let few : c.in_ok-part_at.field-0.need + 1 ≤ 2 * per_block b ^ (c.args.level - 1) = subst (λ h. c.in_ok-part_at.field-0.need + 1 ≤ 2 * per_block h.size ^ (c.args.level - 1)) c.loop-w.invariant.keeps.holdings c.in_ok-part_at.ensures.few in
-    let low : c.loop-w.w < per_block b = omega (arith, c.loop-w-test.true, c.loop-w.auto, c.in_ok-pointers.ensures.long, c.size-words.ensures.size) in
+    let low : c.loop-w.w < per_block b = omega (arith, c.loop-w-test.true, c.loop-w.auto, c.pointers_below.ensures.long, c.size-words.ensures.size) in
     few-fits b c.args.level c.loop-w.part.need c.loop-w.w c.in_ok-part_at.field-0.need c.size-words.ensures.consistent.size (omega (arith, c.if-level-eq0.false)) c.requires.reach.most c.loop-w.invariant.few low few
 
 pub loop-w-preserved : goal.loop-w-preserved
@@ -101,7 +102,7 @@ loop-w-preserved g t c =
 pub overflow_add-part : goal.overflow_add-part
 overflow_add-part g t c =
     let b : ℕ = (g.B.Blocks.state c.args.blocks.now).holdings.size in
-    let all : c.loop-w.w ≡ per_block b = omega (arith, c.loop-w-test.false, c.loop-w.auto, c.in_ok-pointers.ensures.long, c.size-words.ensures.size) in
+    let all : c.loop-w.w ≡ per_block b = omega (arith, c.loop-w-test.false, c.loop-w.auto, c.pointers_below.ensures.long, c.size-words.ensures.size) in
     omega (
       arith,
       level-fits b c.args.level c.size-words.ensures.consistent.size c.requires.reach.most,
@@ -116,7 +117,7 @@ returns-clause-part g t c = λ told le.
     let plan : Plan = c.args.plan.now in
     let words : 0 < per_block b = words_positive b c.size-words.ensures.consistent.size in
     let old : Shape = (alteration_in plan m).old in
-    let all : c.loop-w.w ≡ per_block b = omega (arith, c.loop-w-test.false, c.loop-w.auto, c.in_ok-pointers.ensures.long, c.size-words.ensures.size) in
+    let all : c.loop-w.w ≡ per_block b = omega (arith, c.loop-w-test.false, c.loop-w.auto, c.pointers_below.ensures.long, c.size-words.ensures.size) in
     let known : IsToldPlan m plan = record { consistent = c.leading-pointer.ensures.consistent; long = c.requires.long; met = c.requires.plan; told = subst (λ x. IsTrue x.tells) (c.loop-w.invariant.keeps.told told) told } in
     let pointer : c.leading-pointer.result ≡ planned_pointer plan m c.args.level c.args.index = followed m plan c.args.level c.args.index c.args.pointer c.leading-pointer.result known (c.requires.pointer known.told) c.leading-pointer.ensures.same in
     let had : not (c.leading-pointer.result == absent) ≡ has_position b old c.args.level c.args.index = ap (λ q. not (q == absent)) pointer ∙ sym (planned_position m plan c.args.level c.args.index known) in
@@ -128,5 +129,5 @@ returns-clause-part g t c = λ told le.
 pub returns-clause-few : goal.returns-clause-few
 returns-clause-few g t c =
     let b : ℕ = (g.B.Blocks.state c.args.blocks.now).holdings.size in
-    let all : c.loop-w.w ≡ per_block b = omega (arith, c.loop-w-test.false, c.loop-w.auto, c.in_ok-pointers.ensures.long, c.size-words.ensures.size) in
+    let all : c.loop-w.w ≡ per_block b = omega (arith, c.loop-w-test.false, c.loop-w.auto, c.pointers_below.ensures.long, c.size-words.ensures.size) in
     few-all b c.args.level c.loop-w.part.need c.loop-w.w c.own_need.result c.size-words.ensures.consistent.size (omega (arith, c.if-level-eq0.false)) c.loop-w.invariant.few all c.own_need.ensures.few
