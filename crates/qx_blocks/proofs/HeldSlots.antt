@@ -1,8 +1,8 @@
 -- What a write of one slot does to the fields of blocks in memory.
 use Rattle.std.proofs.Common.{◌≡◌, ℕ, [], ◌∷◌, ◌+◌, ◌<◌, Bool, true, false, not, List, take, drop, ◌++◌, length, refl, sym, ◌∙◌, ap, subst, arith, Option, None, Some, get_or}
-use Rattle.std.specs.Prelude.{is_some, map, if◌then◌else◌, position, count_by, cond, replicate, ◌-◌}
+use Rattle.std.specs.Prelude.{is_some, map, if◌then◌else◌, ◌≤◌, IfSome, position, count_by, cond, replicate, ◌-◌}
 use Rattle.std.specs.Vec.{with_item, with_items}
-use Rattle.std.proofs.lemmas.List.{map-set, length-map, get_or-map, length-take, length-append, length-drop, length-replicate}
+use Rattle.std.proofs.lemmas.List.{map-set, length-map, get_or-map, length-take, length-append, length-drop, length-replicate, get_or-drop, get_or-take}
 use Rattle.std.specs.List.{position_or_len}
 use Rattle.std.proofs.lemmas.Bool.{lt-ltb}
 use Rattle.std.proofs.lemmas.List.Sums.{sum_by-cons}
@@ -11,7 +11,7 @@ use Rattle.qx_blocks.specs.declared.memory.Slot.{Slot}
 use Rattle.qx_blocks.specs.declared.memory.MemBlocks.TheInside.{Inside}
 use Rattle.qx_blocks.specs.BlockState.{with_fresh, without}
 use Rattle.qx_blocks.specs.MemState.{MemState, free_in, state_of, holds, slot_at, with_slot, refit, edited_in, IsKept}
-use Rattle.qx_blocks.specs.MemView.{slot_bytes, mem_state_in, IsCounted}
+use Rattle.qx_blocks.specs.MemView.{slot_bytes, mem_state_in, IsCounted, IsFreeSlot}
 use Rattle.qx_blocks.specs.SlotWrites.{free-with_slot, IsKept-with_slot, within-held, state-released, state-taken}
 
 -- the fields, once slot b is written and `left` blocks are free
@@ -128,29 +128,49 @@ free-none a seen view some none =
     let low : position_or_len is_free a.slots.items < length a.slots.items = found-before a.slots.items (subst (λ v. 0 < free_in v) (sym view) some) in
     cc (none, lt-ltb _ _ low)
 
--- the slot that it finds is free, and is one of the slots
-pub free-found : (a : Inside) (b : ℕ) (d : Slot) → position is_free a.slots.items ≡ Some b → (holds (mem_state_in a) b ≡ false) × (b < length a.slots.items)
-free-found a b d at =
-    let found = position-Some is_free a.slots.items b d at in
-    (ap is_some (get_or-map slot_bytes a.slots.items b d None found.0) ∙ empty (get_or a.slots.items b d) found.1, found.0) where
-      empty : (x : Slot) → is_free x ≡ true → is_some (slot_bytes x) ≡ false
-      empty x free = elim x.held as (λ t. not t ≡ true → is_some (if t then Some x.bytes.items else None) ≡ false) [ true ↦ λ e. absurd (cc) | false ↦ λ _. refl ] free
+-- the slot that a search finds is free
+pub found-free : (xs : List Slot) (b : ℕ) → position is_free xs ≡ Some b → IsFreeSlot xs b
+found-free [] b at = absurd (cc)
+found-free (x ∷ xs) b at = record { low = (position-Some is_free (x ∷ xs) b x at).0; unheld = λ d. unheld (get_or (x ∷ xs) b d) (position-Some is_free (x ∷ xs) b d at).1 } where
+  unheld : (y : Slot) → is_free y ≡ true → y.held ≡ false
+  unheld y free = elim y.held as (λ t. not t ≡ true → t ≡ false) [ true ↦ λ e. absurd (cc) | false ↦ λ _. refl ] free
+
+-- whether it finds one or none
+pub found-any : (xs : List Slot) (o : Option ℕ) → o ≡ position is_free xs → IfSome o (λ b. IsFreeSlot xs b)
+found-any xs None at = tt
+found-any xs (Some b) at = found-free xs b (sym at)
+
+-- one that is found behind some of the slots is one of them
+pub later-free : (from count : ℕ) (xs : List Slot) (b : ℕ) → from ≤ length xs → IsFreeSlot (take count (drop from xs)) b → IsFreeSlot xs (from + b)
+later-free from count xs b long f =
+    let most : length (take count (drop from xs)) ≤ count = omega (arith, length-take count (drop from xs)) in
+    let within : length (take count (drop from xs)) ≤ length (drop from xs) = omega (arith, length-take count (drop from xs)) in
+    record {
+      low = omega (arith, f.low, within, length-drop from xs);
+      unheld = λ d. sym (ap (λ (x : Slot). x.held) (get_or-take count (drop from xs) b d (omega (arith, f.low, most)) ∙ get_or-drop from xs b d)) ∙ f.unheld d;
+    }
+
+-- no block has it
+pub free-found : (a : Inside) (b : ℕ) (d : Slot) → IsFreeSlot a.slots.items b → holds (mem_state_in a) b ≡ false
+free-found a b d f =
+    ap is_some (get_or-map slot_bytes a.slots.items b d None f.low ∙ ap (λ t. if t then Some (get_or a.slots.items b d).bytes.items else None) (f.unheld d))
 
 -- that slot is taken: the fields stay in order
-pub fresh_keeps : (a : Inside) (seen : MemState) (b : ℕ) (s : Slot) → IsCounted a → mem_state_in a ≡ seen → 0 < free_in seen → position is_free a.slots.items ≡ Some b
-    → s.held ≡ true → s.bytes.items ≡ replicate a.size 0 → IsCounted (written a b s (a.free - 1))
-fresh_keeps a seen b s c view some at held zeros =
+pub fresh_keeps : (a : Inside) (seen : MemState) (b hint : ℕ) (s : Slot) → IsCounted a → mem_state_in a ≡ seen → 0 < free_in seen → IsFreeSlot a.slots.items b
+    → s.held ≡ true → s.bytes.items ≡ replicate a.size 0 → IsCounted (record (written a b s (a.free - 1)) { hint = hint })
+fresh_keeps a seen b hint s c view some at held zeros =
     let there : slot_bytes s ≡ Some s.bytes.items = rw held refl in
     let free : 0 < a.free = subst (λ n. 0 < n) (sym c.free) (subst (λ v. 0 < free_in v) (sym view) some) in
-    IsCounted-written a b (a.free - 1) s c (free-found a b s at).1
+    let kept : IsCounted (written a b s (a.free - 1)) = IsCounted-written a b (a.free - 1) s c at.low
     (λ xs e. let same : xs ≡ s.bytes.items = cc in ap length (same ∙ zeros) ∙ length-replicate a.size 0)
-    (rw ((free-found a b s at).0, there) (omega arith))
+    (rw (free-found a b s at, there) (omega arith)) in
+    record { kept = kept.kept; free = kept.free }
 
 -- and the block is taken
-pub fresh_view : (a : Inside) (seen : MemState) (b : ℕ) (s : Slot) → mem_state_in a ≡ seen → 0 < free_in seen → position is_free a.slots.items ≡ Some b
+pub fresh_view : (a : Inside) (seen : MemState) (b : ℕ) (s : Slot) → mem_state_in a ≡ seen → 0 < free_in seen → IsFreeSlot a.slots.items b
     → s.held ≡ true → s.bytes.items ≡ replicate a.size 0 → state_of (mem_state_in (written a b s (a.free - 1))) ≡ with_fresh (state_of seen) b
 fresh_view a seen b s view some at held zeros =
     let there : slot_bytes s ≡ Some (replicate a.size 0) = rw held (ap (λ xs. Some xs) zeros) in
     ap state_of (mem_state-written a b (a.free - 1) s ∙ ap (with_slot (mem_state_in a) b) there)
-    ∙ state-taken (mem_state_in a) b (free-found a b s at).0 (rw length-map (free-found a b s at).1) (subst (λ v. 0 < free_in v) (sym view) some)
+    ∙ state-taken (mem_state_in a) b (free-found a b s at) (rw length-map at.low) (subst (λ v. 0 < free_in v) (sym view) some)
     ∙ ap (λ v. with_fresh (state_of v) b) view

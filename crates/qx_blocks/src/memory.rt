@@ -1,7 +1,8 @@
 //! Blocks in memory. One working tree holds all that are taken.
-ghost use Rattle.std.specs.Prelude.{◌≡◌, ◌<◌, None, IfOk, not, position, refl, replicate};
+ghost use Rattle.std.specs.Prelude.{◌≡◌, ◌<◌, None, IfOk, IfSome, IfNone, not, position, refl, replicate};
 ghost use Rattle.qx_blocks.specs.BlockState.{IsBlockSize};
 ghost use Rattle.qx_blocks.specs.MemState.{edited_in, state_of};
+ghost use Rattle.qx_blocks.specs.MemView.{IsFreeSlot};
 
 use crate::{Blocks, Stop};
 use std::alloc::{AllocError, Global};
@@ -14,6 +15,8 @@ pub struct MemBlocks {
     size: usize,
     free: u64,
     slots: Vec<Slot>,
+    // Where the search for a free slot begins: behind the last that was found, since those before it were mostly taken.
+    hint: usize,
 }
 
 // A slot that isn't held has no bytes.
@@ -36,10 +39,22 @@ impl Model for MemBlocks {
 }
 
 // The first slot that isn't held.
-fn free_slot(slots: &[Slot]) -> Option<usize>
+fn first_free(slots: &[Slot]) -> Option<usize>
     ensures { result ≡ position (λ slot. not slot.held) slots.now }
 {
     slots.iter().position(|slot| !slot.held)
+}
+
+// A slot that isn't held: the next from `hint` on, where there is one.
+fn free_slot(slots: &[Slot], hint: usize) -> Option<usize>
+    ensures free { IfSome result (λ b. IsFreeSlot slots.now b) }
+    ensures none { IfNone result (position (λ slot. not slot.held) slots.now ≡ None) }
+{
+    let from = hint.min(slots.len());
+    match first_free(&slots[from..]) {
+        Some(b) => Some(from + b),
+        None => first_free(slots),
+    }
 }
 
 impl MemBlocks {
@@ -60,6 +75,7 @@ impl MemBlocks {
             size,
             free: u64::from(blocks),
             slots,
+            hint: 0,
         })
     }
 }
@@ -90,12 +106,13 @@ impl Blocks for MemBlocks {
     }
 
     fn fresh(&mut self) -> Result<u32, Stop> {
-        let Some(b) = free_slot(self.slots.as_slice()) else {
+        let Some(b) = free_slot(self.slots.as_slice(), self.hint) else {
             unreachable!()
         };
         let bytes = vec![in self.alloc; 0; self.size]?;
         self.slots[b] = Slot { held: true, bytes };
         self.free -= 1;
+        self.hint = b + 1;
         Ok(b as u32)
     }
 
