@@ -68,7 +68,8 @@ fn hole_below<B: Blocks>(
     if level == 0 {
         return Ok(None);
     }
-    let pointers = words_of(blocks, order, pointer)?;
+    let mut pointers = [ABSENT; 1024];
+    read_words(blocks, order, pointer, &mut pointers[0..words])?;
     for (w, below) in pointers[0..words].iter().enumerate() {
         let child = index * words as u64 + w as u64;
         let hole = hole_below(node, blocks, order, level - 1, child, *below)?;
@@ -77,23 +78,6 @@ fn hole_below<B: Blocks>(
         }
     }
     Ok(None)
-}
-
-// The words of a pointer block, with absent pointers behind them.
-fn words_of<B: Blocks>(blocks: &mut B, order: Order, pointer: u32) -> Result<[u32; 1024], Stop>
-    requires held { IsTrue ((B.state blocks.old).holdings.held pointer) }
-    ensures long { IfOk result (λ words. length words ≡ 1024) }
-    ensures words { IfOk result (λ words. IsTrue (B.state blocks.new).tells → (w : ℕ) → w < per_block (B.state blocks.old).holdings.size
-        → slice_index words w ≡ word (block_map order (B.state blocks.old)) pointer w) }
-
-    ensures keeps { Keeps (B.state blocks.old) (B.state blocks.new) }
-    ensures aside { B.Blocks.aside blocks.new ≡ B.Blocks.aside blocks.old }
-    ensures cause { HasStopCause (B.faults blocks.old) (B.faults blocks.new) result }
-{
-    let words = blocks.size() / 4;
-    let mut pointers = [ABSENT; 1024];
-    read_words(blocks, order, pointer, &mut pointers[0..words])?;
-    Ok(pointers)
 }
 
 // Fills in the words of a pointer block.

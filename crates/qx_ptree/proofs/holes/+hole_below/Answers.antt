@@ -1,8 +1,8 @@
 use Rattle.std.proofs.Common.{rules, ◌≡◌, ℕ, ◌+◌, ◌-◌, ◌*◌, ◌/◌, ◌^◌, ◌<◌, ◌∙◌, true, false, arith, sym, ap, subst}
-use Rattle.std.specs.Prelude.{IsTrue, is_some}
-use Rattle.std.proofs.lemmas.List.{get_or-take}
+use Rattle.std.specs.Prelude.{IsTrue, is_some, length, slice_index}
 use Rattle.qx_geom.specs.Lists.{is_in}
 use Rattle.qx_geom.specs.Pointer.{per_block}
+use Rattle.qx_nodes.specs.BlockMap.{word}
 use Rattle.qx_nodes.specs.Leaves.{leaves_below}
 use Rattle.qx_nodes.specs.Visits.{present_of}
 use Rattle.qx_blocks.specs.BlockState.{BlockState}
@@ -12,6 +12,7 @@ use Rattle.qx_ptree.proofs.FirstHoles.{IsKnown, below_ends, each_none, first_bel
 use Rattle.qx_ptree.proofs.KeptPlans.{kept_again, kept_reach, told_before}
 use Rattle.qx_ptree.proofs.PartBounds.{child-fits, child-reach}
 use Rattle.qx_ptree.proofs.PointerCounts.{power_positive}
+use Rattle.qx_ptree.proofs.RowSlices.{of_part}
 use Rattle.qx_ptree.proofs.holes.+hole_below.Goals.{then-pointer-via-then-pointer, then-pointer-via-else-pointer+then-div_ceil-first}
 use Rattle.qx_ptree.proofs.holes.+hole_below.Goals as goal
 
@@ -70,6 +71,7 @@ hole_below-requires g t c κs within =
     let m : BlockState = g.B.Blocks.state c.args.blocks.now in
     let mid : BlockState = g.B.Blocks.state c.loop-w.blocks in
     let low : c.loop-w.w < c.size-size.result / 4 = omega (arith, c.loop-w-test.true) in
+    let long : length c.read_words.new.into ≡ c.size-size.result / 4 = search rules in
     let same : c.size-size.result / 4 ≡ per_block m.holdings.size = ap (λ n. n / 4) c.size-size.ensures.size in (
       omega (arith, c.decreases, c.if-level-eq0.false),
       (
@@ -88,7 +90,7 @@ hole_below-requires g t c κs within =
                 stand_kept c.args.order m mid c.args.node.now (c.args.level - 1) c.args.index (c.size-size.result / 4) c.loop-w.w _ (c.loop-w.invariant.keeps.told told) same
                 (words_stand c.args.order m c.args.node.now c.args.level c.args.index c.leading-pointer.result c.loop-w.w _ known c.if-level-eq0.false
                 (lead_same c.args.order m c.args.node.now c.args.level c.args.index c.args.pointer c.leading-pointer.result known (c.requires.stands (told_before m mid c.loop-w.invariant.keeps told)) c.leading-pointer.ensures.same c.if-pointer.false below) c.if-pointer.false below word_low
-                (get_or-take (c.size-size.result / 4 - 0) c.in_ok-pointers.pointers c.loop-w.w 0 (omega (arith, low)) ∙ c.in_ok-pointers.ensures.words (c.loop-w.invariant.told told) c.loop-w.w word_low)),
+                (of_part (λ xs. slice_index xs c.loop-w.w ≡ word (block_map c.args.order m) c.leading-pointer.result c.loop-w.w) (c.size-size.result / 4) c.read_words.new.into _ long (c.in_ok-read_words.ensures.words (c.loop-w.invariant.told told) c.loop-w.w (omega (arith, low, long))))),
           ),
         ),
       ),
@@ -139,6 +141,6 @@ pub returns-clause-hole : goal.returns-clause-hole
 returns-clause-hole g t c told =
     let m : BlockState = g.B.Blocks.state c.args.blocks.now in
     let P : ℕ = per_block m.holdings.size in
-    let all : c.loop-w.w ≡ P = omega (arith, c.loop-w-test.false, c.loop-w.auto, c.in_ok-pointers.ensures.long, c.size-size.ensures.size) in
+    let all : c.loop-w.w ≡ P = omega (arith, c.loop-w-test.false, c.loop-w.auto, c.read_words.ensures.long, c.size-size.ensures.size) in
     let ends : (c.args.index * P + c.loop-w.w) * P ^ (c.args.level - 1) ≡ (c.args.index + 1) * P ^ c.args.level = ap (λ w. (c.args.index * P + w) * P ^ (c.args.level - 1)) all ∙ last_span P c.args.level c.args.index c.if-level-eq0.false in
     subst (λ k. HasEach (present_of (block_map c.args.order m) c.args.node.now) (c.args.index * P ^ c.args.level) k) ends (c.loop-w.invariant.each told)
