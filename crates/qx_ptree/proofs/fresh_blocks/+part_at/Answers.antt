@@ -64,7 +64,7 @@ part_at-requires g t c κs within =
               c.requires.long,
               λ told.
                   of_part (λ xs. slice_index xs c.loop-w.w ≡ planned_pointer c.args.plan.now m (c.args.level - 1) (c.args.index * per_block m.holdings.size + c.loop-w.w)) (c.size-words.result / 4) c.pointers_below.new.into _ long
-                      (c.in_ok-pointers_below.ensures.pointers (c.loop-w.invariant.told told) c.loop-w.w (omega (arith, low, long)))
+                  (c.in_ok-pointers_below.ensures.pointers (c.loop-w.invariant.told told) c.loop-w.w (omega (arith, low, long)))
                   ∙ (λ i. planned_pointer c.args.plan.now (sym (c.loop-w.invariant.keeps.told told) i) (c.args.level - 1) (c.args.index * (sym (ap (λ n. n / 4) c.size-words.ensures.size) i) + c.loop-w.w)),
             ),
           ),
