@@ -3,7 +3,6 @@ pub mod PutLeaves
 pub mod PartBytes
 pub mod ReadBytes
 pub mod PlannedChanges
-pub mod AgreeingPointers
 pub mod PutContent
 pub mod EmptyFiles
 pub mod SameBlocks

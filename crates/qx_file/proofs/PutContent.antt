@@ -19,7 +19,7 @@ use Rattle.qx_blocks.specs.BlockState.{BlockState, IsConsistent}
 use Rattle.qx_ptree.specs.Trees.{IsRegular, IsWorking, block_map}
 use Rattle.qx_ptree.proofs.ReadyPaths.{leaf_at_end, pointer_bounds, top_below}
 use Rattle.qx_file.specs.Puts.{CanPut, HasByte, MeetsOnce, Puts, leaf_block, leaves_end, with_part}
-use Rattle.qx_file.proofs.AgreeingPointers.{AgreesAbove, leaf_above, plain_above, visits_above}
+use Rattle.qx_ptree.proofs.AgreeingPointers.{AgreesAbove, leaf_above, plain_above, visits_above}
 use Rattle.qx_file.proofs.KeptPointers.{above_itself, is_with_all, leaf_ready}
 use Rattle.qx_file.proofs.PartBytes.{ends_past, size_some}
 

@@ -16,4 +16,4 @@ as_left order p m = record { size = refl; count = refl; own = λ b h. same_block
 
 -- those of a change alone
 pub own_as_left : (p : Preparation) (m : BlockState) → OwnAsLeft p m m
-own_as_left p m = record { size = refl; count = refl; own = λ b h. same_block m b }
+own_as_left p m = record { size = refl; count = refl; ready = λ b h was. was; bytes = λ b h was. refl }

@@ -55,3 +55,6 @@ pub mod PreparedBlocks
 pub mod ReadyPaths
 pub mod ReachedLeaves
 pub mod FirstHoles
+pub mod AgreeingPointers
+pub mod KeptNodes
+pub mod WaitingChanges

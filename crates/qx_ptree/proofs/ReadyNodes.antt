@@ -85,14 +85,17 @@ module _ (m n now : BlockState) (plan : Plan) (p : Preparation) (r : IsReached m
   same_count : (committed now p).holdings.count ≡ m.holdings.count
   same_count = others.count ∙ ap (λ (h : Holdings). h.count) (edits_holdings now p.work.edits) ∙ left.count ∙ r.takes.count
 
-  -- a block that stays is ready
+  -- a block that stays was ready
+  own_ready : (b : ℕ) → is_in (own_blocks p.work) b ≡ true → IsTrue (n.holdings.ready b)
+  own_ready b h = elim (in_append_cases p.work.fresh p.work.kept b h) [
+    | inl fresh ↦ r.takes.ready b (either_right (m.holdings.ready b) (is_in p.work.fresh b) fresh)
+    | inr kept ↦ r.kept b kept
+  ]
+
+  -- and is
   stays_ready : (b : ℕ) → is_in (own_blocks p.work) b ≡ true → IsTrue ((committed now p).holdings.ready b)
   stays_ready b h =
-      let before : IsTrue (n.holdings.ready b) = elim (in_append_cases p.work.fresh p.work.kept b h) [
-        | inl fresh ↦ r.takes.ready b (either_right (m.holdings.ready b) (is_in p.work.fresh b) fresh)
-        | inr kept ↦ r.kept b kept
-      ] in
-      others.ready b (own_stays p.work b r.distinct h) ∙ ap (λ (g : Holdings). g.ready b) (edits_holdings now p.work.edits) ∙ (left.own b (own_all p.work b h)).ready before
+      others.ready b (own_stays p.work b r.distinct h) ∙ ap (λ (g : Holdings). g.ready b) (edits_holdings now p.work.edits) ∙ left.ready b (own_all p.work b h) (own_ready b h)
 
   -- what was prepared has come about
   shows : ShowsOwn n p.work (committed now p).bytes
@@ -100,7 +103,7 @@ module _ (m n now : BlockState) (plan : Plan) (p : Preparation) (r : IsReached m
     fresh = λ b h.
         let own : is_in (own_blocks p.work) b ≡ true = in_left p.work.fresh p.work.kept b h in
         let edited : LeavesOthers p.work.kept now (with_edits now p.work.edits) = LeavesOthers-with_edits p.work.kept now p.work.edits r.reaches.edits.kept in
-        others.bytes b (own_stays p.work b r.distinct own) ∙ edited.bytes b (distinct_apart_lists p.work.fresh p.work.kept b (own_distinct p.work r.distinct) h) ∙ (left.own b (own_all p.work b own)).bytes;
+        others.bytes b (own_stays p.work b r.distinct own) ∙ edited.bytes b (distinct_apart_lists p.work.fresh p.work.kept b (own_distinct p.work r.distinct) h) ∙ left.bytes b (own_all p.work b own) (own_ready b own);
     edits = λ e c.
         others.bytes e.block (own_stays p.work e.block r.distinct (in_right p.work.fresh p.work.kept e.block (r.reaches.edits.kept e c)))
         ∙ edits_give now p.work.edits e c (λ f g is. ap (λ (x : EditState). x.bytes) (r.reaches.edits.once (own_distinct p.work r.distinct) f e g c is));

@@ -13,3 +13,4 @@ pub mod BuiltNode
 pub mod ReadyLeaves
 pub mod Reaching
 pub mod Holes
+pub mod KeptNodes

@@ -6,7 +6,6 @@ use Rattle.qx_geom.specs.Lists.{is_in}
 use Rattle.qx_geom.specs.Positions.{index_above}
 use Rattle.qx_blocks.specs.BlockState.{BlockState}
 use Rattle.qx_ptree.specs.declared.change.Change.{Change}
-use Rattle.qx_ptree.specs.Altered.{IsSameBlock}
 use Rattle.qx_ptree.specs.Fates.{is_written}
 use Rattle.qx_ptree.specs.Trees.{block_map, pointer_at}
 use Rattle.qx_ptree.specs.WorkState.{Preparation, blocks_of}
@@ -31,8 +30,9 @@ pub record IsReadyApart (order : Order) (m : BlockState) (node : Root) (leaves :
 pub record StandIn (order : Order) (m : BlockState) (node : Root) (leaves : ℕ → Type 0) (blocks : List ℕ) : Type 0 where
   pub own : (k j : ℕ) → k ≤ node.levels → IsAbove m.holdings.size leaves k j → is_in blocks (pointer_at (block_map order m) node k j) ≡ true
 
--- the blocks of a change that waits for its commit are as they were
+-- of the blocks of a change that waits for its commit, those that were ready are, with the bytes that they had
 pub record OwnAsLeft (p : Preparation) (m n : BlockState) : Type 0 where
   pub size : n.holdings.size ≡ m.holdings.size
   pub count : n.holdings.count ≡ m.holdings.count
-  pub own : (b : ℕ) → is_in (blocks_of p) b ≡ true → IsSameBlock m n b
+  pub ready : (b : ℕ) → is_in (blocks_of p) b ≡ true → IsTrue (m.holdings.ready b) → IsTrue (n.holdings.ready b)
+  pub bytes : (b : ℕ) → is_in (blocks_of p) b ≡ true → IsTrue (m.holdings.ready b) → n.bytes b ≡ m.bytes b

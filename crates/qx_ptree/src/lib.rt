@@ -10,6 +10,7 @@ mod building;
 mod change;
 mod fresh_blocks;
 mod holes;
+mod laws;
 mod leaf_path;
 mod part;
 mod pointers;
@@ -21,6 +22,10 @@ pub use building::prepare;
 pub use change::Change;
 pub use fresh_blocks::need;
 pub use holes::first_hole;
+pub use laws::{
+    a_node_stays_with_its_blocks, what_leaves_a_node, what_leaves_a_waiting_change,
+    what_leaves_written_leaves,
+};
 pub use leaf_path::leaf;
 pub use prepared::{Prepared, abandon, apart, commit};
 pub use ready_path::ready_leaf;

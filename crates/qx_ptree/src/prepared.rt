@@ -53,6 +53,7 @@ pub fn abandon<B: Blocks>(blocks: &mut B, p: Prepared)
     // Where nothing else came between, all is as it was before the change was prepared.
     ensures back { (m : _) → Takes p.work.fresh m (B.state blocks.old) → Takes [] m (B.state blocks.new) }
 
+    ensures others { LeavesOthers p.work.fresh (B.state blocks.old) (B.state blocks.new) }
     ensures aside { B.Blocks.aside blocks.new ≡ B.Blocks.aside blocks.old }
     ensures faults { B.faults blocks.new ≡ B.faults blocks.old }
 {

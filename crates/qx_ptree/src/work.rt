@@ -174,6 +174,7 @@ impl Work {
     pub(crate) fn give_back<B: Blocks>(&self, blocks: &mut B)
         ensures released { B.state blocks.new ≡ without_all (B.state blocks.old) self.now.fresh }
         ensures back { (m : _) → Takes self.now.fresh m (B.state blocks.old) → Takes [] m (B.state blocks.new) }
+        ensures others { LeavesOthers self.now.fresh (B.state blocks.old) (B.state blocks.new) }
         ensures aside { B.Blocks.aside blocks.new ≡ B.Blocks.aside blocks.old }
         ensures faults { B.faults blocks.new ≡ B.faults blocks.old }
     {

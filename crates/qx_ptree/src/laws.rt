@@ -1,0 +1,60 @@
+//! Laws of what leaves a node, a change that waits for its commit, and leaves that are ready.
+ghost use Rattle.std.specs.Prelude.{◌≡◌, ℕ, true, false, not, List, IsTrue, Contains};
+ghost use Rattle.std.specs.List.{list_any};
+ghost use Rattle.qx_fields.specs.declared.order.Order.{Order};
+ghost use Rattle.qx_geom.specs.declared.root.Root.{Root};
+ghost use Rattle.qx_geom.specs.Lists.{is_in};
+ghost use Rattle.qx_nodes.specs.Content.{leaf_bytes};
+ghost use Rattle.qx_nodes.specs.Visits.{LiesBelow, Visit, visits_of};
+ghost use Rattle.qx_blocks.specs.BlockState.{BlockState, IsConsistent};
+ghost use Rattle.qx_ptree.specs.declared.change.Change.{Change};
+ghost use Rattle.qx_ptree.specs.Altered.{AsLeft, IsPrepared};
+ghost use Rattle.qx_ptree.specs.KeptNodes.{KeepsNode};
+ghost use Rattle.qx_ptree.specs.ReadyLeaves.{IsReadyApart, IsWrittenBy, OwnAsLeft, StandIn};
+ghost use Rattle.qx_ptree.specs.Takings.{LeavesOthers, Takes};
+ghost use Rattle.qx_ptree.specs.Trees.{IsRegular, IsWorking, block_map};
+ghost use Rattle.qx_ptree.specs.WorkState.{CanCommit, Preparation, blocks_of};
+
+/// Where the blocks that a node meets stay, it meets the same, is as regular as it was, and has the same leaves.
+pub fn a_node_stays_with_its_blocks()
+    ensures visits { (order : Order) (m n : BlockState) (node : Root) → KeepsNode order m n node → visits_of (block_map order n) node ≡ visits_of (block_map order m) node }
+    ensures works { (order : Order) (m n : BlockState) (node : Root) → KeepsNode order m n node → IsWorking order m node → IsWorking order n node }
+    ensures regular { (order : Order) (m n : BlockState) (node : Root) → IsConsistent m → KeepsNode order m n node → IsWorking order m node → IsRegular order m node → IsRegular order n node }
+    ensures leaves { (order : Order) (m n : BlockState) (node : Root) (i : ℕ) → KeepsNode order m n node → LiesBelow (block_map order m) node i
+        → leaf_bytes (block_map order n) node i ≡ leaf_bytes (block_map order m) node i }
+{}
+
+/// They stay where blocks are taken, as for another change, and where only blocks change that the node doesn't meet.
+pub fn what_leaves_a_node()
+    ensures taken { (order : Order) (fresh : List ℕ) (m n : BlockState) (node : Root) → IsConsistent m → IsWorking order m node → IsTrue n.tells → Takes fresh m n → KeepsNode order m n node }
+    ensures others { (order : Order) (changed : List ℕ) (m n : BlockState) (node : Root) → LeavesOthers changed m n
+        → ((v : Visit) → Contains (visits_of (block_map order m) node) v → is_in changed v.block ≡ false) → KeepsNode order m n node }
+{}
+
+/// A change that waits for its commit can be committed after another was prepared, abandoned or committed, if the two are apart.
+pub fn what_leaves_a_waiting_change()
+    ensures apart { (p q : Preparation) → not (list_any (λ b. is_in (blocks_of q) b) (blocks_of p)) ≡ true → (b : ℕ) → is_in (blocks_of p) b ≡ true → is_in (blocks_of q) b ≡ false }
+
+    // Whether bytes are told or not.
+    ensures own_taken { (fresh : List ℕ) (p : Preparation) (m n : BlockState) → Takes fresh m n → OwnAsLeft p m n }
+    ensures own_others { (changed : List ℕ) (p : Preparation) (m n : BlockState) → LeavesOthers changed m n → ((b : ℕ) → is_in (blocks_of p) b ≡ true → is_in changed b ≡ false) → OwnAsLeft p m n }
+    ensures own_then { (p : Preparation) (m n o : BlockState) → OwnAsLeft p m n → OwnAsLeft p n o → OwnAsLeft p m o }
+    ensures can { (p : Preparation) (m n : BlockState) → OwnAsLeft p m n → CanCommit m p → CanCommit n p }
+
+    // Where they are told.
+    ensures held { (order : Order) (old now : BlockState) (p : Preparation) → IsConsistent old → IsWorking order old p.node → Takes p.work.fresh old now → IsPrepared order old now p
+        → (b : ℕ) → is_in (blocks_of p) b ≡ true → IsTrue (now.holdings.held b) }
+    ensures taken { (order : Order) (fresh : List ℕ) (p : Preparation) (m n : BlockState) → IsConsistent m → IsTrue n.tells → IsWorking order m p.node → ((b : ℕ) → is_in (blocks_of p) b ≡ true → IsTrue (m.holdings.held b)) → Takes fresh m n
+        → AsLeft order p m n }
+    ensures others { (order : Order) (changed : List ℕ) (p : Preparation) (m n : BlockState) → LeavesOthers changed m n → ((b : ℕ) → is_in (blocks_of p) b ≡ true → is_in changed b ≡ false)
+        → ((v : Visit) → Contains (visits_of (block_map order m) p.node) v → is_in changed v.block ≡ false) → AsLeft order p m n }
+    ensures then { (order : Order) (p : Preparation) (m n o : BlockState) → AsLeft order p m n → AsLeft order p n o → AsLeft order p m o }
+{}
+
+/// The leaves that a committed change wrote stay ready, in the same blocks, while other blocks are taken or changed.
+pub fn what_leaves_written_leaves()
+    ensures taken { (order : Order) (fresh : List ℕ) (m n : BlockState) (node : Root) (c : Change) (blocks : List ℕ) → Takes fresh m n → IsReadyApart order m node (IsWrittenBy c) → StandIn order m node (IsWrittenBy c) blocks
+        → IsReadyApart order n node (IsWrittenBy c) × StandIn order n node (IsWrittenBy c) blocks }
+    ensures others { (order : Order) (changed : List ℕ) (m n : BlockState) (node : Root) (c : Change) (blocks : List ℕ) → LeavesOthers changed m n → ((b : ℕ) → is_in blocks b ≡ true → is_in changed b ≡ false)
+        → IsReadyApart order m node (IsWrittenBy c) → StandIn order m node (IsWrittenBy c) blocks → IsReadyApart order n node (IsWrittenBy c) × StandIn order n node (IsWrittenBy c) blocks }
+{}
