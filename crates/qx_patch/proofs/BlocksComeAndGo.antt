@@ -1,19 +1,20 @@
 -- Changed blocks, once one comes or goes.
-use Rattle.std.proofs.Common.{◌≡◌, ◌≢◌, ℕ, ◌+◌, ◌-◌, ◌<◌, ◌≤◌, ◌⊎◌, true, false, List, [], ◌∷◌, ◌++◌, length, get_or, insert, remove, None, cond, refl, sym, ◌∙◌, ap, subst, arith, All, inl, inr, vec_len, vec_capacity}
+use Rattle.std.proofs.Common.{◌≡◌, ◌≢◌, ℕ, suc, ◌+◌, ◌-◌, ◌<◌, ◌≤◌, ◌⊎◌, true, false, List, [], ◌∷◌, ◌++◌, length, get_or, insert, remove, None, cond, refl, sym, ◌∙◌, ap, subst, arith, All, inl, inr, vec_len, vec_capacity}
 use Rattle.std.specs.Prelude.{is_some, if◌then◌else◌}
+use Rattle.std.specs.VecDeque.{deque_capacity}
 use Rattle.std.specs.Ordering.{nat_cmp, eq_by_cmp}
 use Rattle.std.specs.FinMap as fin
-use Rattle.std.specs.FinMap.{get, from_entries, get-remove, same_map, nat_cmp-IsAntisymmetric}
+use Rattle.std.specs.FinMap.{get, from_entries, get-from_entries, get-remove, len-empty, len-insert, same_map, nat_cmp-IsAntisymmetric}
 use Rattle.std.proofs.lemmas.Cmp.{nat_cmp_total}
 use Rattle.std.proofs.lemmas.Bool.{cases_eq, cases_lt}
-use Rattle.std.proofs.lemmas.List.{length-append}
+use Rattle.std.proofs.lemmas.List.{length-append, length-map}
 use Rattle.std.proofs.lemmas.List.Edits.{length-insert, length-remove}
 use Rattle.std.proofs.lemmas.List.Elements.{All-push}
 use Rattle.qx_patch.specs.declared.patch.Entry.{Entry}
 use Rattle.qx_patch.specs.declared.patch.Patch.TheInside.{Inside}
 use Rattle.qx_patch.specs.PatchState.{IsLeast, PatchState, with_block, without_block}
 use Rattle.qx_patch.specs.PatchView.{IsAscending, IsInOrder, numbers_of, pairs_of, patch_in}
-use Rattle.qx_patch.proofs.EntryMaps.{keys_of, map-insert, map-remove, apart, tied}
+use Rattle.qx_patch.proofs.EntryMaps.{find-absent, keys_of, map-insert, map-remove, apart, tied}
 use Rattle.qx_patch.proofs.EntriesComeAndGo.{All-insert, All-remove, ascending-insert, ascending-remove, keys-insert, keys-remove}
 use Rattle.qx_patch.proofs.OrderedEntries.{StandsAt, absent-from, contains-there, get-absent, number-at, length-numbers, length-pairs, long-there, others-differ, some-entry, entry-lies, view-written, written}
 
@@ -61,7 +62,7 @@ pub record Inserted (a : Inside) (at b : ℕ) (bytes : List ℕ) (new : Inside) 
   pub pairs : pairs_of new.entries.items ≡ insert (pairs_of a.entries.items) at (b, bytes)
   pub count : vec_len new.spares + 1 ≡ vec_len a.spares
   pub others : All (λ spare. length spare.items ≡ length bytes) new.spares.items
-  pub entries_room : vec_capacity a.entries ≤ vec_capacity new.entries
+  pub entries_room : deque_capacity a.entries ≤ deque_capacity new.entries
   pub spares_room : vec_capacity new.spares ≡ vec_capacity a.spares
 
 -- the fields stay in order, once a block comes
@@ -100,7 +101,7 @@ pub record Removed (a : Inside) (at : ℕ) (new : Inside) : Type 0 where
   pub size : new.size ≡ a.size
   pub pairs : pairs_of new.entries.items ≡ remove (pairs_of a.entries.items) at
   pub kept : (entry : Entry) → entry ≡ get_or a.entries.items at entry → new.spares.items ≡ a.spares.items ++ entry.bytes ∷ []
-  pub entries_room : vec_capacity new.entries ≡ vec_capacity a.entries
+  pub entries_room : deque_capacity new.entries ≡ deque_capacity a.entries
   pub spares_room : vec_capacity a.spares ≤ vec_capacity new.spares
 
 -- one buffer more is spare
@@ -177,3 +178,16 @@ least-first a seen entry ordered view some is = record {
     | inl here ↦ omega (arith, number, ap (λ j. get_or (numbers_of a.entries.items) j 0) here)
     | inr behind ↦ omega (arith, number, ordered.ascending.rises 0 k (omega arith) (rw length-numbers low))
   ]
+
+-- numbers that ascend are as many keys as there are entries
+len-ascending : (pairs : List (ℕ × List ℕ)) → IsAscending (keys_of pairs) → fin.len (from_entries {R = nat_cmp} pairs) ≡ length pairs
+len-ascending [] ascending = len-empty nat_cmp (List ℕ)
+len-ascending (pair ∷ pairs) ascending =
+    let new : is_some (get (from_entries {R = nat_cmp} pairs) pair.0) ≡ false
+    = ap is_some (get-from_entries nat_cmp_total pairs pair.0 ∙ find-absent pairs pair.0 (λ j low e. absurd (omega (arith, ascending.rises 0 (suc j) (omega arith) (rw length-map (omega arith)), e)))) in
+    let fewer : fin.len (from_entries {R = nat_cmp} pairs) ≡ length pairs = len-ascending pairs (record { rises = λ i j less low. ascending.rises (suc i) (suc j) (omega arith) (omega arith) }) in
+    len-insert nat_cmp_total (from_entries {R = nat_cmp} pairs) pair.0 pair.1 ∙ rw new (omega (arith, fewer))
+
+-- so there are as many blocks as entries
+pub len-view : (a : Inside) (seen : PatchState) → IsInOrder a → patch_in a ≡ seen → length a.entries.items ≡ fin.len seen.blocks
+len-view a seen ordered view = sym (length-pairs a.entries.items) ∙ sym (len-ascending (pairs_of a.entries.items) ordered.ascending) ∙ ap (λ p. fin.len p.blocks) view

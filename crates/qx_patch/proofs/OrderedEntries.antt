@@ -4,7 +4,8 @@ use Rattle.std.specs.Ordering.{nat_cmp}
 use Rattle.std.specs.FinMap as fin
 use Rattle.std.specs.FinMap.{get, get-from_entries}
 use Rattle.std.specs.Prelude.{is_some, unwrap_or}
-use Rattle.std.specs.Vec.{with_item, with_items}
+use Rattle.std.specs.Vec.{with_items}
+use Rattle.std.specs.VecDeque.{deque_with_item}
 use Rattle.std.proofs.lemmas.Cmp.{nat_cmp_total}
 use Rattle.std.proofs.lemmas.Bool.{cases_lt}
 use Rattle.std.proofs.lemmas.List.{get_or-map, get_or_default, length-map, length-take, length-append, length-drop, map-set, set-get_or}
@@ -85,7 +86,7 @@ get-absent a seen b view absent =
 
 -- an entry written over another of its number, with as many bytes
 abbrev pub written : Inside → ℕ → Entry → Inside
-written a at entry = record a { entries = with_item a.entries at entry }
+written a at entry = record a { entries = deque_with_item a.entries at entry }
 
 -- the pairs, once an entry is written
 pub pairs-set : (entries : List Entry) (at : ℕ) (entry : Entry) → pairs_of (set entries at entry) ≡ set (pairs_of entries) at (entry.block, entry.bytes.items)

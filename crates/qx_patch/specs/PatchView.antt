@@ -2,6 +2,7 @@
 use Rattle.std.specs.Prelude.{◌≡◌, ℕ, ◌+◌, ◌<◌, ◌≤◌, List, length, map, All, slice_index}
 use Rattle.std.specs.FinMap.{from_entries}
 use Rattle.std.specs.Vec.{vec_len, vec_capacity}
+use Rattle.std.specs.VecDeque.{deque_len, deque_capacity}
 use Rattle.qx_patch.specs.declared.patch.Entry.{Entry}
 use Rattle.qx_patch.specs.declared.patch.Patch.TheInside.{Inside}
 use Rattle.qx_patch.specs.PatchState.{PatchState}
@@ -31,5 +32,5 @@ pub record IsInOrder (a : Inside) : Type 0 where
   pub ascending : IsAscending (numbers_of a.entries.items)
   pub entries_long : All (λ pair. length pair.1 ≡ a.size) (pairs_of a.entries.items)
   pub spares_long : All (λ spare. length spare.items ≡ a.size) a.spares.items
-  pub entries_room : vec_len a.entries + vec_len a.spares ≤ vec_capacity a.entries
-  pub spares_room : vec_len a.entries + vec_len a.spares ≤ vec_capacity a.spares
+  pub entries_room : deque_len a.entries + vec_len a.spares ≤ deque_capacity a.entries
+  pub spares_room : deque_len a.entries + vec_len a.spares ≤ vec_capacity a.spares

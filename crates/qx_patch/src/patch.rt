@@ -1,13 +1,15 @@
 //! Blocks by number, in ascending order, with buffers for more.
 ghost use Rattle.std.specs.Prelude.{◌≡◌, ◌≢◌, ◌⊎◌, ◌+◌, [], ◌∷◌, ◌++◌, All, insert, remove, slice_index_or, vec_len, vec_capacity, ◌<◌, ◌≤◌, ◌^◌, ℕ, List, IfSome, IfNone, IsTrue, MatchOption, OnOk, OnErr, Some, length, max, slice_index};
+ghost use Rattle.std.specs.VecDeque.{deque_len, deque_capacity};
 ghost use Rattle.std.specs.Option.{option_copied, option_copied_mut};
-ghost use Rattle.std.specs.FinMap.{contains_key, empty, get};
+ghost use Rattle.std.specs.FinMap.{contains_key, empty, get, len};
 ghost use Rattle.std.specs.Borrow.{sem, Lends, Array, u8 as byte};
 ghost use Rattle.qx_patch.specs.PatchState.{IsLeast, edited_in, with_block, without_block};
 ghost use Rattle.qx_patch.specs.PatchView.{IsAscending, numbers_of, pairs_of};
 ghost use Rattle.qx_patch.specs.contracts.patch.Patch.{the_row};
 
 use std::alloc::{AllocError, Global};
+use std::collections::VecDeque;
 use std::marker::Model;
 
 /// A map from block numbers to the bytes of blocks.
@@ -15,8 +17,8 @@ use std::marker::Model;
 pub struct Patch {
     alloc: Global,
     size: usize,
-    // Ascending by block, with room for all spares.
-    entries: Vec<Entry>,
+    // Ascending by block, with room for all spares. A queue, since the least one goes first when changes are written.
+    entries: VecDeque<Entry>,
     // Buffers of a block each, with room for those of all entries.
     spares: Vec<Vec<u8>>,
 }
@@ -49,9 +51,16 @@ impl Patch {
         Patch {
             alloc,
             size,
-            entries: Vec::new(alloc),
+            entries: VecDeque::new(alloc),
             spares: Vec::new(alloc),
         }
+    }
+
+    /// How many blocks are there.
+    pub fn len(&self) -> usize
+        ensures { result ≡ len self.now.blocks }
+    {
+        self.entries.len()
     }
 
     /// How many more blocks have room.
@@ -116,9 +125,9 @@ impl Patch {
     pub fn least(&self) -> Option<u32>
         ensures { MatchOption result (self.now.blocks ≡ empty) (λ b. IsLeast self.now.blocks b) }
     {
-        match self.entries.as_slice() {
-            [] => None,
-            [first, ..] => Some(first.block),
+        match self.entries.front() {
+            Some(first) => Some(first.block),
+            None => None,
         }
     }
 
@@ -177,20 +186,20 @@ fn add_buffers(
 
 // Puts an entry at a place, with these bytes in the last buffer.
 fn insert_entry(
-    entries: &mut Vec<Entry>,
+    entries: &mut VecDeque<Entry>,
     spares: &mut Vec<Vec<u8>>,
     at: usize,
     b: u32,
     bytes: &[u8],
 )
-    requires within { at ≤ vec_len entries.old }
+    requires within { at ≤ deque_len entries.old }
     requires buffer { 0 < vec_len spares.old }
     requires long { All (λ spare. length spare.items ≡ length bytes.now) spares.old.items }
-    requires room { vec_len entries.old < vec_capacity entries.old }
+    requires room { deque_len entries.old < deque_capacity entries.old }
     ensures pairs { pairs_of entries.new.items ≡ insert (pairs_of entries.old.items) at (b, bytes.now) }
     ensures count { vec_len spares.new + 1 ≡ vec_len spares.old }
     ensures others { All (λ spare. length spare.items ≡ length bytes.now) spares.new.items }
-    ensures capacity { (vec_capacity entries.old ≤ vec_capacity entries.new) × (vec_capacity spares.new ≡ vec_capacity spares.old) }
+    ensures capacity { (deque_capacity entries.old ≤ deque_capacity entries.new) × (vec_capacity spares.new ≡ vec_capacity spares.old) }
 {
     let Some(mut buffer) = spares.pop() else {
         unreachable!()
@@ -206,42 +215,40 @@ fn insert_entry(
 }
 
 // Takes the entry at a place out, and keeps its buffer.
-fn remove_entry(entries: &mut Vec<Entry>, spares: &mut Vec<Vec<u8>>, at: usize)
-    requires within { at < vec_len entries.old }
+fn remove_entry(entries: &mut VecDeque<Entry>, spares: &mut Vec<Vec<u8>>, at: usize)
+    requires within { at < deque_len entries.old }
     requires room { vec_len spares.old < vec_capacity spares.old }
     ensures pairs { pairs_of entries.new.items ≡ remove (pairs_of entries.old.items) at }
     ensures kept { (entry : _) → entry ≡ slice_index_or entries.old.items at entry → spares.new.items ≡ spares.old.items ++ entry.bytes ∷ [] }
-    ensures capacity { (vec_capacity entries.new ≡ vec_capacity entries.old) × (vec_capacity spares.old ≤ vec_capacity spares.new) }
+    ensures capacity { (deque_capacity entries.new ≡ deque_capacity entries.old) × (vec_capacity spares.old ≤ vec_capacity spares.new) }
 {
-    let Entry { block: _, bytes } = entries.remove(at);
+    let Some(Entry { block: _, bytes }) = entries.remove(at) else {
+        unreachable!()
+    };
     if spares.push(bytes).is_err() {
         unreachable!()
     }
 }
 
 // The first place whose number isn't below b.
-fn first_from(entries: &[Entry], b: u32) -> usize
-    requires { IsAscending (numbers_of entries.now) }
-    ensures within { result ≤ length entries.now }
-    ensures below { (k : ℕ) → k < result → slice_index (numbers_of entries.now) k < b }
-    ensures above { (k : ℕ) → result ≤ k → k < length entries.now → b ≤ slice_index (numbers_of entries.now) k }
+fn first_from(entries: &VecDeque<Entry>, b: u32) -> usize
+    requires { IsAscending (numbers_of entries.now.items) }
+    ensures within { result ≤ length entries.now.items }
+    ensures below { (k : ℕ) → k < result → slice_index (numbers_of entries.now.items) k < b }
+    ensures above { (k : ℕ) → result ≤ k → k < length entries.now.items → b ≤ slice_index (numbers_of entries.now.items) k }
 {
     entries.partition_point(|entry| entry.block < b)
 }
 
 // The place of block b, where it is there.
-fn place_of(entries: &[Entry], b: u32) -> Option<usize>
-    requires { IsAscending (numbers_of entries.now) }
-    ensures there { IfSome result (λ at. (at < length entries.now) × (slice_index (numbers_of entries.now) at ≡ b)) }
-    ensures absent { IfNone result ((k : ℕ) → k < length entries.now → slice_index (numbers_of entries.now) k ≢ b) }
+fn place_of(entries: &VecDeque<Entry>, b: u32) -> Option<usize>
+    requires { IsAscending (numbers_of entries.now.items) }
+    ensures there { IfSome result (λ at. (at < length entries.now.items) × (slice_index (numbers_of entries.now.items) at ≡ b)) }
+    ensures absent { IfNone result ((k : ℕ) → k < length entries.now.items → slice_index (numbers_of entries.now.items) k ≢ b) }
 {
     let at = first_from(entries, b);
-    if at == entries.len() {
-        return None;
-    }
-    if entries[at].block == b {
-        Some(at)
-    } else {
-        None
+    match entries.get(at) {
+        Some(entry) if entry.block == b => Some(at),
+        _ => None,
     }
 }

@@ -38,6 +38,7 @@ fn blocks_come_and_go(rt: HostRuntime) -> Result<(), Fail> {
             patch.take_out(*b);
         }
         assert_eq!(rt; patch.least(), least, "{name}");
+        assert_eq!(rt; patch.len(), come.len().saturating_sub(spare), "{name}");
         assert_eq!(rt; patch.spare(), spare, "{name}");
         for b in come {
             let there = !go.contains(b);

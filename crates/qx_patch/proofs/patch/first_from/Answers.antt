@@ -25,15 +25,15 @@ some-entry (entry ∷ entries) some = entry
 
 pub returns-clause-below : goal.returns-clause-below
 returns-clause-below c =
-    let point = IsPartitionPoint-from_clause (λ entry. nat_lt entry.block c.args.b) _ _ c.partition_point.ensures.partitioned (cut-once c.args.entries.now c.args.b c.requires) (λ a r q k. search rules) in
+    let point = IsPartitionPoint-from_clause (λ entry. nat_lt entry.block c.args.b) _ _ c.partition_point.ensures.partitioned (cut-once c.args.entries.now.items c.args.b c.requires) (λ a r q k. search rules) in
     λ k below.
-    let low : k < length c.args.entries.now = omega (arith, c.partition_point.ensures.bound) in
-    let d : Entry = some-entry c.args.entries.now (omega arith) in
-    omega (arith, number-at c.args.entries.now k d low, ltb-true (get_or c.args.entries.now k d).block c.args.b (point.0 k d (omega arith) below))
+    let low : k < length c.args.entries.now.items = omega (arith, c.partition_point.ensures.bound) in
+    let d : Entry = some-entry c.args.entries.now.items (omega arith) in
+    omega (arith, number-at c.args.entries.now.items k d low, ltb-true (get_or c.args.entries.now.items k d).block c.args.b (point.0 k d (omega arith) below))
 
 pub returns-clause-above : goal.returns-clause-above
 returns-clause-above c =
-    let point = IsPartitionPoint-from_clause (λ entry. nat_lt entry.block c.args.b) _ _ c.partition_point.ensures.partitioned (cut-once c.args.entries.now c.args.b c.requires) (λ a r q k. search rules) in
+    let point = IsPartitionPoint-from_clause (λ entry. nat_lt entry.block c.args.b) _ _ c.partition_point.ensures.partitioned (cut-once c.args.entries.now.items c.args.b c.requires) (λ a r q k. search rules) in
     λ k above low.
-    let d : Entry = some-entry c.args.entries.now (omega arith) in
-    omega (arith, number-at c.args.entries.now k d low, ltb-false (get_or c.args.entries.now k d).block c.args.b (point.1 k d above low))
+    let d : Entry = some-entry c.args.entries.now.items (omega arith) in
+    omega (arith, number-at c.args.entries.now.items k d low, ltb-false (get_or c.args.entries.now.items k d).block c.args.b (point.1 k d above low))

@@ -4,4 +4,4 @@ use Rattle.qx_patch.proofs.EntriesComeAndGo.{pairs-remove}
 use Rattle.qx_patch.proofs.patch.remove_entry.Goals as goal
 
 pub returns-clause-pairs : goal.returns-clause-pairs
-returns-clause-pairs c = ap pairs_of c.remove-bytes.ensures.items ∙ pairs-remove c.args.entries.now.items c.args.at
+returns-clause-pairs c = ap pairs_of c.in-Some.ensures.items ∙ pairs-remove c.args.entries.now.items c.args.at

@@ -1,4 +1,4 @@
-use Rattle.std.proofs.Common.{◌≡◌, ◌≢◌, ℕ, ◌<◌, List, length, get_or, Option, None, Some, IfSome, IfNone, sym, ap, ◌∙◌}
+use Rattle.std.proofs.Common.{refl, ◌≡◌, ◌≢◌, ℕ, ◌<◌, List, length, get_or, Option, None, Some, IfSome, IfNone, sym, ap, ◌∙◌}
 use Rattle.std.specs.Prelude.{is_some}
 use Rattle.std.specs.FinMap.{get}
 use Rattle.qx_patch.specs.declared.patch.Entry.{Entry}
@@ -18,4 +18,4 @@ found-there a seen b lent (Some at) ordered view same there absent = sym (contai
 pub returns : goal.returns
 returns c =
     c.is_some.ensures
-    ∙ found-there c.self.inside c.args.self.now c.args.b c.deref.result.now c.place_of.result c.self.invariant c.self.view_is c.deref.ensures.value c.place_of.ensures.there c.place_of.ensures.absent
+    ∙ found-there c.self.inside c.args.self.now c.args.b c.self.inside.entries.items c.place_of.result c.self.invariant c.self.view_is refl c.place_of.ensures.there c.place_of.ensures.absent
