@@ -75,9 +75,9 @@ held_twice false false d is = refl
 held_twice w true d is = absurd (cc is)
 
 -- nothing behind a change
-or_none : (o none : Option (List ℕ)) → none ≡ None → o ≡ option_or o none
-or_none None none is = sym is
-or_none (Some x) none is = refl
+or_none : (o other : Option (List ℕ)) → other ≡ None → o ≡ option_or o other
+or_none None other is = sym is
+or_none (Some x) other is = refl
 
 module _ {H : Type 0} where
   -- freezing the working tree leaves each block's bytes

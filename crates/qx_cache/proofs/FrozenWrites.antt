@@ -38,21 +38,22 @@ module _ {H : Type 0} {extent : H → Option ℕ} (c : CacheState H) (b : ℕ) (
   pub next-held : is_held c.space b ≡ true
   next-held = (frozen-held (has c.space.working b) (has c.space.frozen b) (has c.space.durable b) (k.frozen_changed b least.there).0).0
 
+  -- it is no change of the working tree
+  pub next-absent : get c.changes b ≡ None
+  next-absent = none_there (get c.changes b) (k.private_changed b ∙ (frozen-held (has c.space.working b) (has c.space.frozen b) (has c.space.durable b) (k.frozen_changed b least.there).0).1)
+
   -- the least changed block of the frozen tree is the next
   pub is-next : IsNext c b bytes
   is-next = record {
     least = least;
     has_bytes = there;
+    alone = next-absent;
     long = k.frozen_long b bytes there;
     user = (held-user c.space b k.space next-held).0;
     below = (held-user c.space b k.space next-held).1;
     frozen = (k.frozen_changed b least.there).0;
     undurable = (k.frozen_changed b least.there).1;
   }
-
-  -- it is no change of the working tree
-  pub next-absent : get c.changes b ≡ None
-  next-absent = none_there (get c.changes b) (k.private_changed b ∙ (frozen-held (has c.space.working b) (has c.space.frozen b) (has c.space.durable b) is-next.frozen).1)
 
   -- a kept block is another one
   pub kept-apart : (q : ℕ) → IsTrue (is_kept c.kept q) → q ≢ b

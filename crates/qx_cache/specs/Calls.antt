@@ -1,5 +1,5 @@
 -- What one call on a cache does.
-use Rattle.std.specs.Prelude.{◌≡◌, ℕ, ◌+◌, ◌≤◌, ◌<◌, Bool, true, false, List, ◌⊎◌, length, IsTrue, is_some, Option, Some, if◌then◌else◌}
+use Rattle.std.specs.Prelude.{◌≡◌, ℕ, ◌+◌, ◌≤◌, ◌<◌, Bool, true, false, List, ◌⊎◌, length, IsTrue, is_some, Option, Some, None, if◌then◌else◌}
 use Rattle.std.specs.Option.{option_map}
 use Rattle.std.specs.FinMap.{get}
 use Rattle.qx_outside.specs.Causes.{StaysWhereTold}
@@ -31,10 +31,11 @@ pub record Reads {H : Type 0} (tells : H → Bool) (history : H → History) (ex
   pub extent_same : StaysWhereTold (extent old.host) (extent new.host)
   pub idles : Idles tells history old.host new.host
 
--- the block that is written next: the least changed one of the frozen tree, which is never the durable tree's
+-- the block that is written next: the least changed one of the frozen tree, which the working tree doesn't change and the durable tree never holds
 pub record IsNext {H : Type 0} (c : CacheState H) (block : ℕ) (bytes : List ℕ) : Type 0 where
   pub least : IsLeast c.frozen_changes block
   pub has_bytes : get c.frozen_changes block ≡ Some bytes
+  pub alone : get c.changes block ≡ None
   pub long : length bytes ≡ c.size
   pub user : c.space.first_user ≤ block
   pub below : block < limit_in c.space

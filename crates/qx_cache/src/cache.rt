@@ -1,6 +1,6 @@
 //! Blocks of a device, whose changes are kept in memory.
 ghost use Rattle.std.specs.Prelude.{◌≡◌, ◌+◌, ◌<◌, ◌≤◌, ◌^◌, ◌↔◌, ℕ, List, [], true, false, length, is_ok, is_some, IsTrue, IfOk, IfErr, IfSome, IfNone, OnOk, OnErr};
-ghost use Rattle.std.specs.FinMap.{empty};
+ghost use Rattle.std.specs.FinMap.{empty, len};
 ghost use Rattle.qx_outside.specs.Causes.{HasCause};
 ghost use Rattle.qx_outside.specs.Trail.{Deed.{wrote, synced}, bytes_of};
 ghost use Rattle.qx_outside.specs.Calls.{Did, FailsToWrite, LeavesConsole, LeavesRest, MayDo, Syncs, Writes};
@@ -169,9 +169,18 @@ impl<H: Dev> Cache<H> {
         requires frozen { self.old.space.is_frozen ≡ true }
         requires written { self.old.frozen_changes ≡ empty }
         ensures thawed { self.new ≡ with_thawed self.old }
+        ensures private { (b : ℕ) → is_private_in self.new.space b ≡ is_private_in self.old.space b }
+        ensures bytes { (device : List ℕ) (b : ℕ) → IsTrue (has self.old.space.working b) → bytes_over device self.new b ≡ bytes_over device self.old b }
         ensures coherent { IsCoherent H.extent self.new }
     {
         self.space.thaw_into_durable();
+    }
+
+    /// How many blocks the working tree alone holds: as many as it changed since it was frozen.
+    pub fn changed(&self) -> usize
+        ensures { result ≡ len self.now.changes }
+    {
+        self.changes.len()
     }
 
     /// Whether the frozen tree holds the block.

@@ -5,6 +5,7 @@ ghost use Rattle.qx_outside.specs.Trail.{Deed.{gave, told_moment, took}};
 ghost use Rattle.qx_outside.specs.Calls.{Converses, Did, FailsToGive, Idles, LeavesDevice};
 ghost use Rattle.qx_cache.specs.CacheState.{with_host};
 ghost use Rattle.qx_cache.specs.Calls.{HasSameBlocks};
+ghost use Rattle.qx_cache.specs.Coherence.{IsCoherent};
 
 use crate::Cache;
 use qx_outside::{Failed, Host};
@@ -24,6 +25,7 @@ impl<H: Host> Cache<H> {
         ensures rest { self.new ≡ with_host self.old self.new.host }
         ensures blocks { HasSameBlocks H.tells H.history self.old self.new }
         ensures others { LeavesDevice H.extent H.attached H.dev_reads H.dev_faults self.old.host self.new.host }
+        ensures coherent { IsCoherent H.extent self.new }
     {
         self.host.take(into)
     }
@@ -38,6 +40,7 @@ impl<H: Host> Cache<H> {
         ensures rest { self.new ≡ with_host self.old self.new.host }
         ensures blocks { HasSameBlocks H.tells H.history self.old self.new }
         ensures others { LeavesDevice H.extent H.attached H.dev_reads H.dev_faults self.old.host self.new.host }
+        ensures coherent { IsCoherent H.extent self.new }
     {
         self.host.put(bytes)
     }
@@ -52,6 +55,7 @@ impl<H: Host> Cache<H> {
         ensures rest { self.new ≡ with_host self.old self.new.host }
         ensures blocks { HasSameBlocks H.tells H.history self.old self.new }
         ensures others { LeavesDevice H.extent H.attached H.dev_reads H.dev_faults self.old.host self.new.host }
+        ensures coherent { IsCoherent H.extent self.new }
     {
         self.host.now()
     }
