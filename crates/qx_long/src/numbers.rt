@@ -1,5 +1,5 @@
 //! The number of a new long name.
-ghost use Rattle.std.specs.Prelude.{◌≡◌, ◌<◌, ℕ, true, IfOk, IsTrue};
+ghost use Rattle.std.specs.Prelude.{◌≡◌, ◌<◌, ◌≤◌, ◌^◌, ℕ, true, Ok, Err, IfOk, IsTrue};
 ghost use Rattle.qx_geom.specs.Lists.{is_in};
 ghost use Rattle.qx_nodes.specs.Visits.{present_of};
 ghost use Rattle.qx_blocks.specs.Calls.{HasStopCause, Keeps};
@@ -24,8 +24,15 @@ pub fn first_absent<B: Blocks>(long: &Root, blocks: &mut B, order: Order) -> Res
     ensures aside { B.Blocks.aside blocks.new ≡ B.Blocks.aside blocks.old }
     ensures cause { HasStopCause (B.faults blocks.old) (B.faults blocks.new) result }
 {
-    let hole = first_hole(long, blocks, order)?;
-    match u32::try_from(hole) {
+    number_of(first_hole(long, blocks, order)?)
+}
+
+// The number of a leaf. There are none from 2^32 on.
+fn number_of(leaf: u64) -> Result<u32, Stop>
+    ensures fits { leaf < 2 ^ 32 → result ≡ Ok leaf }
+    ensures past { 2 ^ 32 ≤ leaf → result ≡ Err Stop.NoMemory }
+{
+    match u32::try_from(leaf) {
         Ok(number) => Ok(number),
         Err(_) => Err(Stop::NoMemory),
     }

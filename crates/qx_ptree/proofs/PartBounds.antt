@@ -117,3 +117,10 @@ top-fits b level need j child sized most few low one =
     let more : need + child + (j + 1) ≤ (j + 1) * (2 * K) = few-more j need child K few one in
     let up : (j + 1) * (2 * K) ≤ 16 * (2 * K) = mul-le-mul_right (2 * K) (omega arith) in
     omega (arith, power-few b level sized most)
+
+-- over all of them there are few blocks
+pub top-few : (b level need j : ℕ) → IsBlockSize b → level ≤ 5 → need + j ≤ j * (2 * per_block b ^ level) → j ≤ 16 → need ≤ 2 ^ 55
+top-few b level need j sized most few low =
+    let K : ℕ = per_block b ^ level in
+    let up : j * (2 * K) ≤ 16 * (2 * K) = mul-le-mul_right (2 * K) low in
+    omega (arith, power-few b level sized most)

@@ -4,7 +4,7 @@ use Rattle.std.specs.Prelude.{true, false, not, ◌||◌, Bool, IsTrue, Contains
 use Rattle.std.specs.List.{list_any}
 use Rattle.qx_fields.specs.declared.order.Order.{Order}
 use Rattle.qx_geom.specs.Lists.{is_in}
-use Rattle.qx_geom.proofs.Members.{in_append_cases, in_cases}
+use Rattle.qx_geom.proofs.Members.{in_cases}
 use Rattle.qx_geom.proofs.Truths.{or_left, or_right}
 use Rattle.qx_nodes.specs.Visits.{Visit, visits_of}
 use Rattle.qx_blocks.specs.BlockState.{BlockState, IsConsistent}
@@ -13,7 +13,7 @@ use Rattle.qx_ptree.specs.KeptNodes.{KeepsNode}
 use Rattle.qx_ptree.specs.ReadyLeaves.{OwnAsLeft}
 use Rattle.qx_ptree.specs.Takings.{LeavesOthers, Takes}
 use Rattle.qx_ptree.specs.Trees.{IsWorking, block_map}
-use Rattle.qx_ptree.specs.WorkState.{CanCommit, EditState, Preparation, blocks_of}
+use Rattle.qx_ptree.specs.WorkState.{CanCommit, Preparation, blocks_of}
 use Rattle.qx_ptree.proofs.CarriedPlans.{fresh_held, held_after, held_old, private_after}
 use Rattle.qx_ptree.proofs.KeptNodes.{visits_kept}
 use Rattle.qx_ptree.proofs.ListedBlocks.{either_left}

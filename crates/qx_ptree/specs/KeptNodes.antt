@@ -1,5 +1,5 @@
 -- What leaves a node as it was.
-use Rattle.std.specs.Prelude.{◌≡◌, ℕ, IsTrue, Contains}
+use Rattle.std.specs.Prelude.{◌≡◌, IsTrue, Contains}
 use Rattle.qx_fields.specs.declared.order.Order.{Order}
 use Rattle.qx_geom.specs.declared.root.Root.{Root}
 use Rattle.qx_nodes.specs.Visits.{Visit, visits_of}

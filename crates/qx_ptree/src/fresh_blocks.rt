@@ -37,6 +37,8 @@ pub fn need<B: Blocks>(
     requires works { IsTrue (B.state blocks.old).tells → IsWorking order (B.state blocks.old) node.now }
     requires regular { IsTrue (B.state blocks.old).tells → IsRegular order (B.state blocks.old) node.now }
     ensures need { IfOk result (λ need. IsTrue (B.state blocks.new).tells → need ≡ fresh_count (alteration_of order (B.state blocks.old) node.now change.now)) }
+    // So that the needs of several changes can be summed, also where bytes aren't told.
+    ensures few { IfOk result (λ need. need ≤ 2 ^ 55) }
 
     ensures keeps { Keeps (B.state blocks.old) (B.state blocks.new) }
     ensures aside { B.Blocks.aside blocks.new ≡ B.Blocks.aside blocks.old }

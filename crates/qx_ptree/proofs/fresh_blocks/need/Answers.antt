@@ -7,7 +7,7 @@ use Rattle.qx_ptree.specs.Fates.{leaves_after}
 use Rattle.qx_ptree.specs.Parts.{part_of}
 use Rattle.qx_ptree.specs.Plans.{IsPlan, alteration_in, planned_pointer}
 use Rattle.qx_ptree.proofs.KeptPlans.{kept_again, kept_part, kept_plan, kept_reach}
-use Rattle.qx_ptree.proofs.PartBounds.{few-more, top-fits, top-reach}
+use Rattle.qx_ptree.proofs.PartBounds.{few-more, top-few, top-fits, top-reach}
 use Rattle.qx_ptree.proofs.PlannedParts.{level-is, need-is}
 use Rattle.qx_ptree.proofs.PointerCounts.{size_positive}
 use Rattle.qx_ptree.proofs.SumsBelow.{sum_up_to-begins}
@@ -85,3 +85,10 @@ returns-clause-need g c told =
     let level : c.levels-level.result ≡ levels_for b (leaves_after b c.args.change.now) = level-is b c.size-size.result c.div_ceil.result c.levels-level.result c.args.change.now some c.size-size.ensures.size c.div_ceil.ensures c.levels-level.ensures in
     let met : IsPlan m plan = record { levels = c.requires.levels; change = c.requires.change; works = c.requires.works; regular = c.requires.regular } in
     need-is m plan c.levels-level.result c.loop-j.j c.loop-j.need c.size-size.ensures.consistent met level (omega (arith, c.loop-j-test.false, c.loop-j.auto)) (c.loop-j.invariant.need told)
+
+pub returns-clause-few : goal.returns-clause-few
+returns-clause-few g c =
+    let b : ℕ = (g.B.Blocks.state c.args.blocks.now).holdings.size in
+    let some : 0 < b = size_positive b c.size-size.ensures.consistent.size in
+    let level : c.levels-level.result ≡ levels_for b (leaves_after b c.args.change.now) = level-is b c.size-size.result c.div_ceil.result c.levels-level.result c.args.change.now some c.size-size.ensures.size c.div_ceil.ensures c.levels-level.ensures in
+    top-few b c.levels-level.result c.loop-j.need c.loop-j.j c.size-size.ensures.consistent.size (omega (arith, level, new-levels b c.args.change.now some c.requires.change)) c.loop-j.invariant.few (omega (arith, c.loop-j.auto))
