@@ -1,11 +1,8 @@
 //! Long names in nodes that are built by hand.
 ghost use Rattle.std.specs.Prelude.{◌≡◌, ◌*◌, ◌<◌, ◌≤◌, IsTrue};
 
-mod untold;
-
-use crate::tests::untold::Untold;
 use crate::{first_absent, get, plan};
-use qx_blocks::{Blocks, MemBlocks, Stop};
+use qx_blocks::{Blocks, MemBlocks, Stop, Untold};
 use qx_fields::{Order, put16};
 use qx_geom::{ABSENT, Root};
 use qx_ptree::Change;

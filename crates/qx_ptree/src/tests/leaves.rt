@@ -3,8 +3,7 @@ ghost use Rattle.std.specs.Prelude.{◌≡◌, ◌+◌, ◌<◌, ◌≤◌, ◌*
 ghost use Rattle.qx_blocks.specs.Calls.{Keeps};
 
 use crate::leaf;
-use crate::tests::quiet::Quiet;
-use qx_blocks::{Blocks, MemBlocks, Stop};
+use qx_blocks::{Blocks, MemBlocks, Stop, Untold};
 use qx_fields::{Order, put32};
 use qx_geom::{ABSENT, Root};
 use std::test::Fail;
@@ -39,7 +38,7 @@ fn leaf_by<B: Blocks>(
     requires at { at < 16 }
     requires few { index < 2 ^ 18 }
     requires reached { index < 16 * 128 ^ levels }
-    requires quiet { ¬ IsTrue (B.state blocks.old).tells }
+    requires untold { ¬ IsTrue (B.state blocks.old).tells }
     ensures keeps { Keeps (B.state blocks.old) (B.state blocks.new) }
 {
     let mut pointers = [ABSENT; 16];
@@ -56,7 +55,7 @@ fn leaf_by<B: Blocks>(
 fn leaves_by_level<B: Blocks>(blocks: &mut B, order: Order) -> Result<[[Option<u32>; 3]; 3], Stop>
     requires size { (B.state blocks.old).holdings.size ≡ 512 }
     requires room { 3 ≤ (B.state blocks.old).holdings.free }
-    requires quiet { ¬ IsTrue (B.state blocks.old).tells }
+    requires untold { ¬ IsTrue (B.state blocks.old).tells }
 {
     let last = blocks.fresh()?;
     let below = pointer_block(blocks, order, 3, last)?;
@@ -83,7 +82,7 @@ fn leaves_by_level<B: Blocks>(blocks: &mut B, order: Order) -> Result<[[Option<u
 #[test]
 fn a_leaf_stands_at_its_path_alone(rt: HostRuntime) -> Result<(), Fail> {
     for order in [Order::Little, Order::Big] {
-        let mut blocks = Quiet {
+        let mut blocks = Untold {
             blocks: MemBlocks::new(rt.alloc(), 512, 3)?,
         };
         let leaves = leaves_by_level(&mut blocks, order)?;

@@ -1,10 +1,10 @@
-//! Blocks whose bytes aren't told, so that a test owes nothing for what its pointers lead to.
-use qx_blocks::{Blocks, MemBlocks, Stop};
+//! Blocks whose bytes aren't told, as those of a device may not be.
+use crate::{Blocks, MemBlocks, Stop};
 
-// Blocks in memory, of which nothing is told.
+/// Blocks in memory of which nothing is told: for tests, whose callers then owe nothing for what pointers lead to.
 #[derive(Drop)]
-pub(crate) struct Untold {
-    pub(crate) blocks: MemBlocks,
+pub struct Untold {
+    pub blocks: MemBlocks,
 }
 
 impl Blocks for Untold {
