@@ -235,7 +235,7 @@ fn release_all<B: Blocks>(blocks: &mut B, released: &[u32])
     ensures faults { B.faults blocks.new ≡ B.faults blocks.old }
 {
     for b in released {
-        // Only bytes that aren't told name a block twice.
+        // What the tree doesn't hold any more is passed over.
         if blocks.works(*b) {
             blocks.release(*b);
         }

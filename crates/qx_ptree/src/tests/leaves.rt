@@ -90,3 +90,19 @@ fn a_leaf_stands_at_its_path_alone(rt: HostRuntime) -> Result<(), Fail> {
     }
     Ok(())
 }
+
+#[test]
+fn a_pointer_to_a_block_that_the_tree_does_not_hold_counts_as_absent(
+    rt: HostRuntime,
+) -> Result<(), Fail> {
+    for order in [Order::Little, Order::Big] {
+        let mut blocks = Untold {
+            blocks: MemBlocks::new(rt.alloc(), 512, 3)?,
+        };
+        let free = leaf_by(&mut blocks, order, 0, 15, 2, 15)?;
+        let outside = leaf_by(&mut blocks, order, 0, 15, 3, 15)?;
+        let below = leaf_by(&mut blocks, order, 2, 1, 2, 16384)?;
+        assert_eq!(rt; [free, outside, below], [None; 3], "{order:?}");
+    }
+    Ok(())
+}
