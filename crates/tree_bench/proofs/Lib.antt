@@ -1,0 +1,3 @@
+pub mod KeptNodes
+pub mod ChangedNodes
+pub mod ChangedCaches
