@@ -1,3 +1,4 @@
 pub mod KeptNodes
 pub mod ChangedNodes
 pub mod ChangedCaches
+pub mod WrittenNodes

@@ -16,20 +16,20 @@ use std::alloc::Global;
 
 // What makes a node.
 #[derive(Clone, Copy)]
-pub enum Step<'a> {
+pub enum Step {
     // A change.
     Make(Change),
     // Bytes from a place on.
-    Write(u64, &'a [u8]),
+    Write(u64, &'static [u8]),
 }
 
 // What is asked of a node.
 #[derive(Clone, Copy)]
-pub enum Question<'a> {
+pub enum Question {
     // The need of a change, with what the call does to the node.
     Need(Call, Change),
-    // The bytes from a place on, as many as these.
-    Bytes(u64, &'a [u8]),
+    // So many bytes from a place on.
+    Bytes(u64, usize),
     // The long name of a number.
     Name(u32),
     // The least number without a leaf.
@@ -43,12 +43,19 @@ pub struct Name {
     pub length: usize,
 }
 
+// The first four bytes, the last two, and the sum of all.
+#[derive(Clone, Copy, Debug, PartialEq, Eq)]
+pub struct Excerpt {
+    pub first: [u8; 4],
+    pub last: [u8; 2],
+    pub sum: u64,
+}
+
 // What is answered.
 #[derive(Clone, Copy, Debug, PartialEq, Eq)]
 pub enum Answer {
     Need(u64),
-    // Whether they are those that were named.
-    Bytes(bool),
+    Bytes(Option<Excerpt>),
     Name(Option<Name>),
     Absent(u32),
 }
@@ -59,7 +66,7 @@ pub fn make<B: Blocks>(
     node: &mut Root,
     blocks: &mut B,
     order: Order,
-    steps: &[Step<'_>],
+    steps: &[Step],
 ) -> Result<(), Refusal>
     requires { IsNode order (B.state blocks.old) node.old }
     ensures node { IsNode order (B.state blocks.new) node.new }
@@ -77,7 +84,7 @@ fn take_step<B: Blocks>(
     node: &mut Root,
     blocks: &mut B,
     order: Order,
-    step: &Step<'_>,
+    step: &Step,
 ) -> Result<(), Refusal>
     requires { IsNode order (B.state blocks.old) node.old }
     ensures node { IsNode order (B.state blocks.new) node.new }
@@ -113,6 +120,8 @@ fn write<B: Blocks>(
         return Err(Refusal::Unfit);
     };
     change_node(alloc, node, blocks, order, &change)?;
+    // Only this says that the blocks are consistent.
+    let _size = blocks.size();
     put(node, blocks, order, at, bytes);
     Ok(())
 }
@@ -123,7 +132,7 @@ pub fn ask<B: Blocks>(
     node: &mut Root,
     blocks: &mut B,
     order: Order,
-    question: &Question<'_>,
+    question: &Question,
 ) -> Result<Answer, Refusal>
     requires { IsNode order (B.state blocks.old) node.old }
     ensures { IsNode order (B.state blocks.new) node.new }
@@ -133,30 +142,49 @@ pub fn ask<B: Blocks>(
             let need = call_once(alloc, *call, node, blocks, order, change)?;
             Ok(Answer::Need(need))
         }
-        Question::Bytes(at, bytes) => {
-            let alike = has_bytes(alloc, node, blocks, order, *at, bytes)?;
-            Ok(Answer::Bytes(alike))
+        Question::Bytes(at, count) => {
+            let excerpt = excerpt_at(alloc, node, blocks, order, *at, *count)?;
+            Ok(Answer::Bytes(excerpt))
         }
         Question::Name(number) => Ok(Answer::Name(name_of(node, blocks, order, *number)?)),
         Question::Absent => Ok(Answer::Absent(absent_number(node, blocks, order)?)),
     }
 }
 
-// Whether a node has these bytes from a place on.
-fn has_bytes<B: Blocks>(
+// What is read of so many bytes from a place on.
+fn excerpt_at<B: Blocks>(
     alloc: Global,
     node: &Root,
     blocks: &mut B,
     order: Order,
     at: u64,
-    bytes: &[u8],
-) -> Result<bool, Stop>
+    count: usize,
+) -> Result<Option<Excerpt>, Stop>
     requires { IsNode order (B.state blocks.old) node.now }
     ensures { IsNode order (B.state blocks.new) node.now }
 {
-    let mut into = vec![in alloc; 7; bytes.len()]?;
-    let count = read(node, blocks, order, at, &mut into)?;
-    Ok(count == bytes.len() && into.as_slice() == bytes)
+    let mut into = vec![in alloc; 7; count]?;
+    let read = read(node, blocks, order, at, &mut into)?;
+    Ok(excerpt_of(&into[..read]))
+}
+
+// An excerpt of bytes that are enough for one.
+fn excerpt_of(bytes: &[u8]) -> Option<Excerpt> {
+    match bytes {
+        [a, b, c, d, .., y, z] => Some(Excerpt {
+            first: [*a, *b, *c, *d],
+            last: [*y, *z],
+            sum: sum_of(bytes),
+        }),
+        _ => None,
+    }
+}
+
+// The sum of bytes.
+fn sum_of(bytes: &[u8]) -> u64 {
+    bytes
+        .iter()
+        .fold(0u64, |sum, byte| sum.wrapping_add(u64::from(*byte)))
 }
 
 // The long name of a number.

@@ -56,7 +56,7 @@ pub fn freeze<H: Dev>(cache: &mut Cache<H>, node: &Root, order: Order)
 }
 
 // Puts the changed blocks of the frozen tree on the device, and answers how many they were.
-pub fn write_all<H: Dev>(cache: &mut Cache<H>, node: &Root, order: Order) -> Result<u64, Failed>
+pub fn write_all<H: Dev>(cache: &mut Cache<H>, node: &Root, order: Order) -> Result<u32, Failed>
     requires { IsNode order (state_of H.tells H.history cache.old) node.now }
     ensures { IsNode order (state_of H.tells H.history cache.new) node.now }
 {
