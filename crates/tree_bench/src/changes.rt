@@ -1,5 +1,5 @@
 //! A change of a node, from the question whether it may be made to the answer.
-ghost use Rattle.std.specs.Prelude.{◌≡◌, ◌+◌, ◌<◌, ◌≤◌, ◌&&◌, [], ℕ, true, false, length, nat_le, nat_lt, IfErr, IfOk, IsTrue, OnErr, OnOk};
+ghost use Rattle.std.specs.Prelude.{◌≡◌, ◌+◌, ◌<◌, ◌≤◌, ◌↔◌, ◌&&◌, [], ℕ, true, false, length, nat_le, nat_lt, IfErr, IfOk, IsTrue, OnErr, OnOk};
 ghost use Rattle.qx_geom.specs.Pointer.{ceil_div};
 ghost use Rattle.qx_geom.specs.Positions.{is_named};
 ghost use Rattle.qx_blocks.specs.BlockState.{IsBlockSize, IsConsistent};
@@ -8,7 +8,7 @@ ghost use Rattle.qx_ptree.specs.Alterations.{alteration_of, fresh_count};
 ghost use Rattle.qx_ptree.specs.Fates.{IsChange, is_written};
 ghost use Rattle.qx_ptree.specs.ReadyLeaves.{IsReadyApart, IsWrittenBy};
 ghost use Rattle.qx_ptree.specs.Takings.{Takes};
-ghost use Rattle.tree_bench.specs.Nodes.{IsNode};
+ghost use Rattle.tree_bench.specs.Nodes.{HasReason, IsNode};
 
 use qx_blocks::{Blocks, Stop};
 use qx_fields::Order;
@@ -72,12 +72,12 @@ pub fn checked_need<B: Blocks>(
     ensures need { IfOk result (λ need. IsTrue (B.state blocks.new).tells → need ≡ fresh_count (alteration_of order (B.state blocks.old) node.now change.now)) }
     ensures room { IfOk result (λ need. need ≤ (B.state blocks.new).holdings.free) }
 
-    ensures no_space { IfErr result (λ refusal. refusal ≡ Refusal.NoSpace → IsTrue (B.state blocks.new).tells
-        → (B.state blocks.old).holdings.free < fresh_count (alteration_of order (B.state blocks.old) node.now change.now)) }
+    ensures reason { IfErr result (HasReason order (B.state blocks.old) node.now change.now (B.state blocks.new).tells (B.faults blocks.old) (B.faults blocks.new)) }
 
     ensures keeps { Keeps (B.state blocks.old) (B.state blocks.new) }
     ensures node { IsNode order (B.state blocks.new) node.now }
     ensures consistent { OnOk result (IsConsistent (B.state blocks.new)) }
+    ensures later { B.faults blocks.old ≤ B.faults blocks.new }
     ensures long { length node.now.pointers ≡ 16 }
     ensures aside { B.Blocks.aside blocks.new ≡ B.Blocks.aside blocks.old }
 {
@@ -106,6 +106,7 @@ pub fn change_node<B: Blocks>(
     ensures size { OnOk result (node.new.size ≡ change.now.size) }
     ensures written { OnOk result (IsReadyApart order (B.state blocks.new) node.new (IsWrittenBy change.now)) }
 
+    ensures reason { IfErr result (HasReason order (B.state blocks.old) node.old change.now (B.state blocks.new).tells (B.faults blocks.old) (B.faults blocks.new)) }
     ensures same { OnErr result (node.new ≡ node.old) }
     ensures err { OnErr result (Takes [] (B.state blocks.old) (B.state blocks.new)) }
 
@@ -129,6 +130,7 @@ pub fn try_node<B: Blocks>(
 ) -> Result<u64, Refusal>
     requires node { IsNode order (B.state blocks.old) node.now }
     ensures made { IfOk result (λ need. IsTrue (B.state blocks.new).tells → need ≡ fresh_count (alteration_of order (B.state blocks.old) node.now change.now)) }
+    ensures reason { IfErr result (HasReason order (B.state blocks.old) node.now change.now (B.state blocks.new).tells (B.faults blocks.old) (B.faults blocks.new)) }
 
     ensures back { Takes [] (B.state blocks.old) (B.state blocks.new) }
     ensures node { IsNode order (B.state blocks.new) node.now }
@@ -151,7 +153,7 @@ fn pointers_of(node: Root) -> [u32; 16]
 // Whether a node can be changed so.
 fn is_permitted(change: &Change, blocksize: u64) -> bool
     requires blocksize { IsBlockSize blocksize }
-    ensures { IsTrue result → IsChange blocksize change.now }
+    ensures { IsTrue result ↔ IsChange blocksize change.now }
 {
     let leaves = change.size.div_ceil(blocksize);
     leaves <= 16 * (blocksize / 4).pow(5)
@@ -162,15 +164,15 @@ fn is_permitted(change: &Change, blocksize: u64) -> bool
 
 // Whether the range of leaves that are written lies below the new size.
 fn range_fits(change: &Change, leaves: u64) -> bool
-    ensures { IsTrue result → (i : ℕ) → change.now.first ≤ i → i < change.now.first + change.now.count → i < leaves }
+    ensures { IsTrue result ↔ ((i : ℕ) → change.now.first ≤ i → i < change.now.first + change.now.count → i < leaves) }
 {
     change.count == 0 || change.first < leaves && change.count <= leaves - change.first
 }
 
 // Whether the other leaf that is written lies below the new size, and outside the range.
 fn also_fits(change: &Change, leaves: u64) -> bool
-    ensures { IsTrue result → (i : ℕ) → is_named change.now.also i ≡ true
-        → (i < leaves) × ((nat_le change.now.first i && nat_lt i (change.now.first + change.now.count)) ≡ false) }
+    ensures { IsTrue result ↔ ((i : ℕ) → is_named change.now.also i ≡ true
+        → (i < leaves) × ((nat_le change.now.first i && nat_lt i (change.now.first + change.now.count)) ≡ false)) }
 {
     match change.also {
         Some(leaf) => leaf < leaves && !is_in_range(change, leaf),
@@ -180,7 +182,7 @@ fn also_fits(change: &Change, leaves: u64) -> bool
 
 // Whether the leaf that is taken out isn't written.
 fn gone_fits(change: &Change) -> bool
-    ensures { IsTrue result → (i : ℕ) → is_named change.now.gone i ≡ true → is_written change.now i ≡ false }
+    ensures { IsTrue result ↔ ((i : ℕ) → is_named change.now.gone i ≡ true → is_written change.now i ≡ false) }
 {
     match change.gone {
         Some(leaf) => !is_in_range(change, leaf) && change.also != Some(leaf),

@@ -1,5 +1,7 @@
+use Rattle.std.proofs.lemmas.Result.{err_from_is_err_and}
 use Rattle.std.proofs.Common.{[]}
 use Rattle.qx_ptree.proofs.TakenBlocks.{Takes-after}
+use Rattle.tree_bench.proofs.Reasons.{stopped}
 use Rattle.tree_bench.proofs.KeptNodes.{node-back}
 use Rattle.tree_bench.proofs.changes.try_node.Goals as goal
 
@@ -25,3 +27,9 @@ returns-clause-node g c =
     let n = g.B.Blocks.state c.checked_need.new.blocks in
     node-back c.args.order (g.B.Blocks.state c.args.blocks.now) n (g.B.Blocks.state c.abandon.new.blocks) c.args.node.now c.args.change.now
     c.checked_need.ensures.keeps c.in_ok-takes.ensures.consistent c.in_ok-takes.ensures.long c.in_ok-takes.ensures.change (c.abandon.ensures.back n c.in_ok-p.ensures.takes) c.in_ok-takes.ensures.node
+
+pub returns-in_err-p-clause-reason : goal.returns-in_err-p-clause-reason
+returns-in_err-p-clause-reason g c =
+    let p = err_from_is_err_and c.from_residual-in_err-p.result c.from_residual-in_err-p.ensures.1 in
+    rw (p.1, p.2) (stopped c.args.order (g.B.Blocks.state c.args.blocks.now) c.args.node.now c.args.change.now (g.B.Blocks.state c.prepare.new.blocks).tells (g.B.Blocks.faults c.args.blocks.now)
+    (g.B.Blocks.faults c.checked_need.new.blocks) (g.B.Blocks.faults c.prepare.new.blocks) c.in_err-p.field-0.0 c.checked_need.ensures.later c.in_err-p.ensures.cause.device)
