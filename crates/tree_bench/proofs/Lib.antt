@@ -1,0 +1,6 @@
+pub mod KeptNodes
+pub mod ChangedNodes
+pub mod ChangedCaches
+pub mod WrittenNodes
+pub mod PermittedChanges
+pub mod Reasons

@@ -1,0 +1,13 @@
+use Rattle.std.proofs.Common.{arith, rules}
+use Rattle.qx_file.proofs.EmptyFiles.{empty_regular, empty_works}
+use Rattle.qx_file.proofs.PartBytes.{size_some}
+use Rattle.tree_bench.proofs.changes.empty_node.Goals as goal
+
+pub returns : goal.returns
+returns g c =
+    let m = g.B.Blocks.state c.args.blocks.now in
+    record {
+      levels = search (rules, arith);
+      works = λ _. empty_works c.args.order m;
+      regular = λ _. empty_regular c.args.order m (size_some m.holdings.size c.size-size.ensures.consistent.size);
+    }

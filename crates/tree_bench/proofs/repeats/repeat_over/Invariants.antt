@@ -1,0 +1,5 @@
+use Rattle.tree_bench.specs.Nodes.{IsNode}
+use Rattle.tree_bench.proofs.repeats.repeat_over.Given as goal
+
+abbrev pub invariant-loop : goal.invariant-loop
+invariant-loop g l = IsNode l.order (g.B.Blocks.state l.blocks) l.node

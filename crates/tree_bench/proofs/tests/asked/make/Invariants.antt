@@ -1,0 +1,6 @@
+use Rattle.std.proofs.Common.{◌≡◌}
+use Rattle.tree_bench.specs.Nodes.{IsNode}
+use Rattle.tree_bench.proofs.tests.asked.make.Given as goal
+
+abbrev pub invariant-loop-step : goal.invariant-loop-step
+invariant-loop-step g l = IsNode l.order (g.B.Blocks.state l.blocks) l.node × (g.B.Blocks.aside l.blocks ≡ g.B.Blocks.aside l.fn.blocks)

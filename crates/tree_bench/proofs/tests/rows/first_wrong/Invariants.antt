@@ -1,0 +1,6 @@
+use Rattle.std.proofs.Common.{◌≡◌}
+use Rattle.tree_bench.specs.Nodes.{IsNode}
+use Rattle.tree_bench.proofs.tests.rows.first_wrong.Given as goal
+
+abbrev pub invariant-loop-place : goal.invariant-loop-place
+invariant-loop-place g l = IsNode l.order (g.B.Blocks.state l.blocks) l.node × (g.B.Blocks.aside l.blocks ≡ g.B.Blocks.aside l.fn.blocks)
