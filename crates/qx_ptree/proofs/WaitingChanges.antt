@@ -5,7 +5,7 @@ use Rattle.std.specs.List.{list_any}
 use Rattle.qx_fields.specs.declared.order.Order.{Order}
 use Rattle.qx_geom.specs.Lists.{is_in}
 use Rattle.qx_geom.proofs.Members.{in_cases}
-use Rattle.qx_geom.proofs.Truths.{or_left, or_right}
+use Rattle.qx_geom.proofs.Truths.{not_so, not_true, or_left, or_right, true_or_false}
 use Rattle.qx_nodes.specs.Visits.{Visit, visits_of}
 use Rattle.qx_blocks.specs.BlockState.{BlockState, IsConsistent}
 use Rattle.qx_ptree.specs.Altered.{AsLeft, IsPrepared, IsSameBlock}
@@ -20,7 +20,7 @@ use Rattle.qx_ptree.proofs.ListedBlocks.{either_left}
 use Rattle.qx_ptree.proofs.OtherBlocks.{kept_among}
 
 -- none of some blocks is one of others
-abbrev IsApart : List ℕ → List ℕ → Type 0
+abbrev pub IsApart : List ℕ → List ℕ → Type 0
 IsApart blocks others = (b : ℕ) → is_in blocks b ≡ true → is_in others b ≡ false
 
 -- a test that fails for all fails for each
@@ -33,11 +33,11 @@ none_passes f (x ∷ xs) none b h = elim (in_cases x b xs h) [
 
 -- two changes that are apart have no block in common
 pub apart_each : (p q : Preparation) → not (list_any (λ b. is_in (blocks_of q) b) (blocks_of p)) ≡ true → IsApart (blocks_of p) (blocks_of q)
-apart_each p q h = none_passes (λ b. is_in (blocks_of q) b) (blocks_of p) (fails (list_any (λ b. is_in (blocks_of q) b) (blocks_of p)) h)
-  where
-    fails : (a : Bool) → not a ≡ true → a ≡ false
-    fails true h = absurd (cc (h))
-    fails false h = refl
+apart_each p q h = none_passes (λ b. is_in (blocks_of q) b) (blocks_of p) (not_true (list_any (λ b. is_in (blocks_of q) b) (blocks_of p)) h)
+
+-- and the other way
+pub apart_back : (blocks others : List ℕ) → IsApart blocks others → IsApart others blocks
+apart_back blocks others h b in' = not_so (is_in blocks b) (λ e. true_or_false (is_in others b) in' (h b e))
 
 -- ---- whether bytes are told or not
 

@@ -33,7 +33,7 @@ pub fn what_leaves_a_node()
 
 /// A change that waits for its commit can be committed after another was prepared, abandoned or committed, if the two are apart.
 pub fn what_leaves_a_waiting_change()
-    ensures apart { (p q : Preparation) → not (list_any (λ b. is_in (blocks_of q) b) (blocks_of p)) ≡ true → (b : ℕ) → is_in (blocks_of p) b ≡ true → is_in (blocks_of q) b ≡ false }
+    ensures apart { (p q : Preparation) → not (list_any (λ b. is_in (blocks_of q) b) (blocks_of p)) ≡ true → (b : ℕ) → (is_in (blocks_of p) b ≡ true → is_in (blocks_of q) b ≡ false) × (is_in (blocks_of q) b ≡ true → is_in (blocks_of p) b ≡ false) }
 
     // Whether bytes are told or not.
     ensures own_taken { (fresh : List ℕ) (p : Preparation) (m n : BlockState) → Takes fresh m n → OwnAsLeft p m n }

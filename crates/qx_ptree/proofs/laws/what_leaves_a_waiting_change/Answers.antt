@@ -1,8 +1,9 @@
-use Rattle.qx_ptree.proofs.WaitingChanges.{apart_each, can_left, left_others, left_taken, left_then, own_held, own_others, own_taken, own_then}
+use Rattle.qx_ptree.specs.WorkState.{blocks_of}
+use Rattle.qx_ptree.proofs.WaitingChanges.{apart_back, apart_each, can_left, left_others, left_taken, left_then, own_held, own_others, own_taken, own_then}
 use Rattle.qx_ptree.proofs.laws.what_leaves_a_waiting_change.Goals as goal
 
 pub returns-clause-apart : goal.returns-clause-apart
-returns-clause-apart c = λ p q h. apart_each p q h
+returns-clause-apart c = λ p q h b. (apart_each p q h b, apart_back (blocks_of p) (blocks_of q) (apart_each p q h) b)
 
 pub returns-clause-own_taken : goal.returns-clause-own_taken
 returns-clause-own_taken c = λ fresh p m n t. own_taken fresh p m n t
