@@ -2,7 +2,6 @@
 use Rattle.std.proofs.Common.{◌≡◌, ◌∙◌, sym, subst}
 use Rattle.std.specs.Prelude.{IsTrue}
 use Rattle.qx_fields.specs.declared.order.Order.{Order}
-use Rattle.qx_geom.specs.declared.root.Root.{Root}
 use Rattle.qx_blocks.specs.BlockState.{BlockState}
 use Rattle.qx_ptree.specs.Altered.{Alters, IsPrepared}
 use Rattle.qx_ptree.specs.Takings.{LeavesOthers, Takes}

@@ -1,6 +1,5 @@
 -- A node stays one where a call leaves its blocks alone.
 use Rattle.std.proofs.Common.{◌≡◌, ℕ, List, [], length, sym, subst}
-use Rattle.std.specs.Prelude.{IsTrue}
 use Rattle.qx_fields.specs.declared.order.Order.{Order}
 use Rattle.qx_geom.specs.declared.root.Root.{Root}
 use Rattle.qx_blocks.specs.BlockState.{BlockState, IsConsistent}

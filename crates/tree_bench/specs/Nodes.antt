@@ -18,7 +18,7 @@ pub record IsNode (order : Order) (m : BlockState) (node : Root) : Type 0 where
   pub works : IsTrue m.tells → IsWorking order m node
   pub regular : IsTrue m.tells → IsRegular order m node
 
--- why a change of a node isn't made: it is none that a node can undergo; fewer blocks are free than it takes, where bytes are told; the count of the device's faults rose
+-- a refusal has its reason: no node is changed so; fewer blocks are free than the change takes, where bytes are told; the count of the device's faults rose
 pub record HasReason (order : Order) (m : BlockState) (node : Root) (c : Change) (told : Bool) (before now : ℕ) (refusal : Refusal) : Type 0 where
   pub unfit : refusal ≡ Unfit → ¬ (IsChange m.holdings.size c)
   pub no_space : refusal ≡ NoSpace → IsTrue told → m.holdings.free < fresh_count (alteration_of order m node c)

@@ -94,8 +94,8 @@ fn a_frozen_block_is_written_in_a_fresh_one(rt: HostRuntime) -> Result<(), Fail>
     let four = [three[0], three[1], three[2], made(range(8704, 0, 0), 0, 68)];
     let far = [made(range((1 << 41) + 1, 1 << 32, 1), 6, 80)];
     let cases: [(&str, &[Row], &[Row]); 4] = [
-        ("leaf 17 goes", &four, &[]),
-        ("far", &far, &[]),
+        ("three changes and back", &four, &[]),
+        ("a leaf far away", &far, &[]),
         // The pointer block is taken anew, and the frozen tree keeps the old one and leaf 17.
         ("leaf 17 goes", &three, &[made(range(8704, 0, 0), 1, 66)]),
         // Leaves 0 and 17, and their pointer block.

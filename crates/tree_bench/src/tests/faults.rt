@@ -23,17 +23,7 @@ struct Case {
     reads: u64,
 }
 
-// The case of a change.
-fn changed(blocks: u32, call: Call, change: Change, need: u64, reads: u64) -> Case {
-    asked(
-        blocks,
-        Question::Need(call, change),
-        Answer::Need(need),
-        reads,
-    )
-}
-
-// The case of a question.
+// A case.
 fn asked(blocks: u32, question: Question, answer: Answer, reads: u64) -> Case {
     Case {
         blocks,
@@ -109,34 +99,27 @@ fn a_change_gives_its_blocks_back_where_a_read_fails(rt: HostRuntime) -> Result<
     let ends = range_also(1_049_088, 0, 1, 2048);
     let far = [Step::Make(ends)];
     let first = range(512, 0, 0);
-    let cases: [(&str, &[Step], Case); 12] = [
-        ("a level", &three, changed(19, Call::Need, two, 3, 1)),
-        ("a level", &three, changed(19, Call::Prepare, two, 3, 3)),
-        ("a level", &three, changed(19, Call::Commit, two, 3, 3)),
-        ("a leaf goes", &three, changed(19, Call::Need, fewer, 1, 1)),
-        (
-            "a leaf goes",
-            &three,
-            changed(19, Call::Prepare, fewer, 1, 1),
-        ),
-        (
-            "a leaf goes",
-            &three,
-            changed(19, Call::Commit, fewer, 1, 1),
-        ),
-        ("two levels", &far, changed(5, Call::Need, ends, 5, 3)),
-        ("two levels", &far, changed(5, Call::Prepare, ends, 5, 5)),
-        ("two levels", &far, changed(5, Call::Commit, ends, 5, 5)),
-        ("levels go", &far, changed(5, Call::Need, first, 0, 2)),
-        ("levels go", &far, changed(5, Call::Prepare, first, 0, 3)),
-        ("levels go", &far, changed(5, Call::Commit, first, 0, 3)),
+    let cases: [(&str, &[Step], u32, Change, u64, [u64; 2]); 4] = [
+        ("two leaves", &three, 19, two, 3, [1, 3]),
+        ("a leaf goes", &three, 19, fewer, 1, [1, 1]),
+        ("two levels", &far, 5, ends, 5, [3, 5]),
+        ("two levels go", &far, 5, first, 0, [2, 3]),
     ];
-    for (name, steps, case) in cases {
-        for order in [Order::Little, Order::Big] {
-            assert!(rt;
-                reads_are_met(rt.alloc(), order, steps, &case)?,
-                "{name}, {order:?}"
-            );
+    for (name, steps, blocks, change, need, [of_need, of_all]) in cases {
+        let calls = [
+            (Call::Need, of_need),
+            (Call::Prepare, of_all),
+            (Call::Commit, of_all),
+        ];
+        for (call, reads) in calls {
+            let question = Question::Need(call, change);
+            let case = asked(blocks, question, Answer::Need(need), reads);
+            for order in [Order::Little, Order::Big] {
+                assert!(rt;
+                    reads_are_met(rt.alloc(), order, steps, &case)?,
+                    "{name}, {call:?}, {order:?}"
+                );
+            }
         }
     }
     Ok(())

@@ -1,4 +1,4 @@
-use Rattle.std.proofs.Common.{◌≡◌, ◌∙◌, subst, sym, arith, rules}
+use Rattle.std.proofs.Common.{◌≡◌, ◌∙◌, subst, sym, arith}
 use Rattle.qx_geom.proofs.LevelCounts.{ceil_div-is}
 use Rattle.qx_file.proofs.PartBytes.{size_some}
 use Rattle.qx_ptree.specs.Fates.{leaves_after}
