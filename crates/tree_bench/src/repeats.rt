@@ -1,5 +1,6 @@
 //! One call on a node in memory, as often as it is asked for.
-ghost use Rattle.std.specs.Prelude.{◌≡◌};
+ghost use Rattle.std.specs.Prelude.{◌≡◌, IfOk, IsTrue, OnOk};
+ghost use Rattle.qx_ptree.specs.Alterations.{alteration_of, fresh_count};
 ghost use Rattle.tree_bench.specs.Nodes.{IsNode};
 
 use crate::changes::{Refusal, change_node, checked_need, empty_node, try_node};
@@ -38,6 +39,10 @@ pub fn call_once<B: Blocks>(
     change: &Change,
 ) -> Result<u64, Refusal>
     requires { IsNode order (B.state blocks.old) node.old }
+    ensures need { IfOk result (λ need. IsTrue (B.state blocks.new).tells → need ≡ fresh_count (alteration_of order (B.state blocks.old) node.old change.now)) }
+    ensures committed { call ≡ Call.Commit → OnOk result (node.new.size ≡ change.now.size) }
+    ensures kept { ¬ (call ≡ Call.Commit) → node.new ≡ node.old }
+
     ensures node { IsNode order (B.state blocks.new) node.new }
     ensures aside { B.Blocks.aside blocks.new ≡ B.Blocks.aside blocks.old }
 {
