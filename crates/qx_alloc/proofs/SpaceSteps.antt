@@ -6,7 +6,7 @@ use Rattle.std.proofs.lemmas.List.FromFn.{length-map-range_with_len, get_or-map-
 use Rattle.qx_blockset.specs.Members.{Members, has, limit_of, union_of}
 use Rattle.qx_blockset.proofs.MembersInWords.{count-insert, count-remove}
 use Rattle.qx_alloc.specs.declared.space.Space.TheInside.{Inside}
-use Rattle.qx_alloc.specs.SpaceState.{IsConsistent, free_in, is_held, is_private_in, none_of, users_in}
+use Rattle.qx_alloc.specs.SpaceState.{IsConsistent, free_in, is_private_in, none_of, users_in}
 use Rattle.qx_alloc.specs.SpaceView.{space_in, IsInOrder}
 use Rattle.qx_alloc.proofs.FreeBlocks.{count-free}
 use Rattle.qx_alloc.proofs.UserBlocks.{length-users, users-below}
@@ -109,35 +109,6 @@ in_order-freed a b order private = record {
 pub free-freed : (a : Inside) (b : ℕ) → IsInOrder a → has a.taken b ≡ true → is_private_in (space_in a) b ≡ true → free_in (space_in (freed_at a b)) ≡ free_in (space_in a) + 1
 free-freed a b order there private =
     omega (arith, count-free a order, count-free (freed_at a b) (in_order-freed a b order private), count-remove a.taken b (has-below a.taken b there) there, length-set a.working b false)
-
--- the fields once the working tree gave up a block that others hold as well
-abbrev unshared_at : Inside → ℕ → Inside
-unshared_at a b = record a { working = set a.working b false }
-
--- a block that another tree holds as well is given up
-pub in_order-unshared : (a : Inside) (b : ℕ) → IsInOrder a → has a.working b ≡ true → is_private_in (space_in a) b ≡ false → IsInOrder (unshared_at a b)
-in_order-unshared a b order there shared = record {
-  few = rw length-set order.few;
-  frozen_long = order.frozen_long ∙ sym (length-set a.working b false);
-  durable_long = order.durable_long ∙ sym (length-set a.working b false);
-  taken_long = order.taken_long ∙ sym (length-set a.working b false);
-  taken_held = λ q. order.taken_held q ∙ elim (cases_eq q b) [
-    | inl e ↦ ap (is_held (space_in a)) e ∙ ap (λ t. t || has (space_in a).frozen b || has a.durable b) there
-        ∙ sym (ap (is_held (space_in (unshared_at a b))) e ∙ ap (λ t. t || has (space_in a).frozen b || has a.durable b) (get_or-set_same a.working b false false (has-below a.working b there)) ∙ others (has a.working b) (is_shared a b) there shared)
-    | inr apart ↦ sym (ap (λ t. t || has (space_in a).frozen q || has a.durable q) (get_or-set_other a.working b q false false apart))
-  ];
-  users = order.users;
-  begins = order.begins;
-} where
-  others : (w t : Bool) → w ≡ true → (w && not t) ≡ false → t ≡ true
-  others true true is h = refl
-  others true false is h = cc
-  others false t is h = cc
-
--- and as many blocks are free as before
-pub free-unshared : (a : Inside) (b : ℕ) → IsInOrder a → has a.working b ≡ true → is_private_in (space_in a) b ≡ false → free_in (space_in (unshared_at a b)) ≡ free_in (space_in a)
-free-unshared a b order there shared =
-    omega (arith, count-free a order, count-free (unshared_at a b) (in_order-unshared a b order there shared), length-set a.working b false)
 
 -- the fields once the working tree was frozen
 abbrev frozen_from : Inside → Inside

@@ -2,7 +2,7 @@
 use Rattle.std.proofs.Common.{◌≡◌, ◌≢◌, ℕ, ◌+◌, ◌-◌, ◌*◌, ◌/◌, ◌%◌, ◌^◌, ◌<◌, ◌≤◌, inl, inr, Bool, true, false, List, length, get_or, set, refl, sym, ◌∙◌, ap, subst, arith, replicate, w64}
 use Rattle.std.specs.Prelude.{◌==◌, if◌then◌else◌, bit_or, bit_and}
 use Rattle.std.specs.Int.{bit_at, bit_not}
-use Rattle.std.proofs.lemmas.List.{get_or-set_same, get_or-set_other, length-set, ext_get_or, get_or-replicate, get_or_past, length-replicate, set-get_or}
+use Rattle.std.proofs.lemmas.List.{get_or-set_same, get_or-set_other, length-set, ext_get_or, get_or-replicate, get_or_past, length-replicate}
 use Rattle.std.proofs.lemmas.List.FromFn.{length-map-range_with_len, get_or-map-range_with_len}
 use Rattle.std.proofs.lemmas.List.Sums.{sum_by-set, count_by-le-length}
 use Rattle.std.proofs.lemmas.List.Folds.{sum_by-replicate}
@@ -178,10 +178,6 @@ counted-remove a seen b n h lies there = record {
 pub count-fits : (a : Inside) (seen : Members) (b : ℕ) → IsIn a seen b → has seen b ≡ false → a.count + 1 ≤ a.limit
 count-fits a seen b h out =
     omega (arith, count-insert seen b h.low out, count_by-le-length (λ x. x) (set seen b true), length-set seen b true, ap length h.view, length-members a.words.items a.limit, h.counted.counted ∙ ap count_of h.view)
-
--- where it was in the set already, nothing changes
-pub insert-same : (s : Members) (b : ℕ) (t : Bool) → has s b ≡ t → s ≡ set s b t
-insert-same s b t h = sym (ap (λ x. set s b x) (sym h) ∙ set-get_or s b false)
 
 -- sets with one limit have their words alike
 pub same-limit : (a o : Inside) (seen other : Members) → members_in a ≡ seen → members_in o ≡ other → length other ≡ length seen → a.limit ≡ o.limit

@@ -1,11 +1,11 @@
 -- Where blocks lie on a device, and what a write elsewhere leaves of them.
-use Rattle.std.proofs.Common.{◌≡◌, ◌≢◌, ℕ, ◌+◌, ◌-◌, ◌*◌, ◌<◌, ◌≤◌, ◌⊎◌, inl, inr, Bool, true, false, List, length, drop, length-drop, refl, sym, ◌∙◌, ap, subst, arith}
+use Rattle.std.proofs.Common.{◌≡◌, ◌≢◌, ℕ, ◌+◌, ◌-◌, ◌*◌, ◌<◌, ◌≤◌, ◌⊎◌, inl, inr, Bool, false, List, length, drop, length-drop, refl, sym, ◌∙◌, ap, subst, arith}
 use Rattle.std.specs.Prelude.{IsTrue, IfSome, Option, Some}
 use Rattle.std.proofs.lemmas.Bool.{cases_lt}
 use Rattle.std.proofs.lemmas.List.{length-take}
 use Rattle.qx_bytes.proofs.Puts.{range_put_apart}
-use Rattle.qx_outside.specs.Trail.{History, wrote, bytes_of}
-use Rattle.qx_outside.specs.Calls.{Did, FailsToWrite, Writes}
+use Rattle.qx_outside.specs.Trail.{History, bytes_of}
+use Rattle.qx_outside.specs.Calls.{FailsToWrite, Writes}
 use Rattle.qx_cache.specs.CacheState.{block_place, device_block}
 
 -- a later number is a block further at least
@@ -36,11 +36,7 @@ length-device_block device size b within =
     omega (arith, length-take (block_place size b + size - block_place size b) (drop (block_place size b) device), length-drop (block_place size b) device)
 
 module _ {D : Type 0} (tells : D → Bool) (history : D → History) where
-  -- a write that was done is a write
-  pub did-writes : (at : ℕ) (asked : List ℕ) (old new : D) → Did tells history (wrote at asked asked Bool.true) old new → Writes tells history at asked old new
-  did-writes at asked old new d = record { before = d.before; step = λ told. inr (asked, (true, refl, d.step told)) }
-
-  -- and so is one that failed
+  -- a write that failed is a write
   pub failed-writes : (at : ℕ) (asked : List ℕ) (old new : D) → FailsToWrite tells history at asked old new → Writes tells history at asked old new
   failed-writes at asked old new f = record {
     before = f.before;

@@ -14,10 +14,10 @@ use Rattle.qx_alloc.specs.SpaceState as space
 use Rattle.qx_alloc.proofs.SpaceSteps.{has-none, has-below}
 use Rattle.qx_blocks.specs.BlockState.{IsBlockSize, put}
 use Rattle.qx_blocks.specs.SlotWrites.{put-same}
-use Rattle.qx_cache.specs.CacheState.{CacheState, is_kept, kept_but, with_frozen, with_host, with_released, with_taken, with_thawed, with_written}
+use Rattle.qx_cache.specs.CacheState.{CacheState, is_kept, kept_but, with_host, with_released, with_taken, with_thawed, with_written}
 use Rattle.qx_cache.specs.Coherence.{HasRoom, IsCoherent}
 use Rattle.qx_cache.specs.ChangedKeys.{get-gone, get-put, there-gone, there-put}
-use Rattle.qx_cache.proofs.Spaces.{held-user, private-alone, private-set, private-shared, private-works, unheld-parts, works-set}
+use Rattle.qx_cache.proofs.Spaces.{held-user, private-alone, private-set, private-shared, unheld-parts, works-set}
 
 -- ---- maps of changes
 
@@ -221,28 +221,6 @@ module _ {H : Type 0} {extent : H → Option ℕ} where
     still : (q : ℕ) → contains_key (remove c.frozen_changes b) q ≡ true → contains_key c.frozen_changes q ≡ true
     still q is =
         elim (q == b) as (λ t. (if t then false else contains_key c.frozen_changes q) ≡ true → contains_key c.frozen_changes q ≡ true) [ true ↦ λ e. absurd (cc e) | false ↦ λ e. e ] (sym (there-gone c.frozen_changes b q) ∙ is)
-
-  -- the working tree is frozen
-  pub coherent-frozen : (c : CacheState H) → IsCoherent extent c → IsConsistent (space.with_frozen c.space) → IsCoherent extent (with_frozen c)
-  coherent-frozen c k consistent = record {
-    size = k.size;
-    space = consistent;
-    private_changed = λ q. ap is_some (get-empty nat_cmp q) ∙ sym (nothing (has c.space.working q) (has c.space.durable q));
-    frozen_changed = λ q there.
-        let private : is_private_in c.space q ≡ true = sym (k.private_changed q) ∙ there in
-        (private-works (has c.space.working q) (has c.space.frozen q) (has c.space.durable q) private, (private-alone (has c.space.working q) (has c.space.frozen q) (has c.space.durable q) private).1);
-    unfrozen = λ is. absurd (cc is);
-    shared = λ is q works durable. works;
-    long = λ q bytes is. absurd (cc (is, get-empty {X = List ℕ} nat_cmp q));
-    frozen_long = k.long;
-    kept_few = k.kept_few;
-    kept_clean = λ q is. (get-empty nat_cmp q, (k.kept_clean q is).0);
-    kept_user = k.kept_user;
-    room = k.room;
-  } where
-    nothing : (w d : Bool) → (w && not (w || d)) ≡ false
-    nothing true d = refl
-    nothing false d = refl
 
   -- the frozen tree is the durable one
   pub coherent-thawed : (c : CacheState H) → IsCoherent extent c → c.space.is_frozen ≡ true → c.frozen_changes ≡ empty → IsConsistent (space.with_thawed c.space) → IsCoherent extent (with_thawed c)

@@ -11,11 +11,11 @@ use Rattle.qx_patch.specs.PatchState as patch
 use Rattle.qx_blockset.specs.Members.{has}
 use Rattle.qx_alloc.specs.SpaceState.{SpaceState, IsConsistent, IsFree, is_held, is_private_in, limit_in}
 use Rattle.qx_alloc.specs.SpaceState as space
-use Rattle.qx_cache.specs.CacheState.{CacheState, device_block, edited_in, is_kept, refit, with_frozen, with_host, with_released, with_taken, with_thawed, with_written}
+use Rattle.qx_cache.specs.CacheState.{CacheState, device_block, edited_in, is_kept, refit, with_host, with_released, with_taken, with_thawed, with_written}
 use Rattle.qx_blocks.specs.BlockState.{IsBlockSize}
 use Rattle.qx_cache.specs.CacheView.{cache_in, IsInOrder}
 use Rattle.qx_cache.specs.Coherence.{HasRoom}
-use Rattle.qx_cache.proofs.CoherentSteps.{coherent-edited, coherent-frozen, coherent-host, coherent-kept, coherent-new, coherent-released, coherent-taken, coherent-thawed, coherent-written, kept-one, kept-others}
+use Rattle.qx_cache.proofs.CoherentSteps.{coherent-edited, coherent-host, coherent-kept, coherent-new, coherent-released, coherent-taken, coherent-thawed, coherent-written, kept-one, kept-others}
 
 -- what is written over a block leaves its length
 pub length-refit : (old new : List ℕ) → length (refit old new) ≡ length old
@@ -140,18 +140,6 @@ module _ {H : Type 0} {tells : H → Bool} {history : H → History} {extent : H
     coherent = coherent-thawed c o.coherent frozen written consistent;
     changes_size = o.changes_size;
     frozen_size = o.frozen_size;
-    buffer_long = o.buffer_long;
-    spare_long = o.spare_long;
-    kept_bytes = o.kept_bytes;
-  }
-
-  -- the working tree was frozen: the maps change places
-  pub order-frozen : (c : CacheState H) (ch fz : PatchState) (buffer spare : List ℕ) → IsInOrder tells history extent c ch fz buffer spare → IsConsistent (space.with_frozen c.space)
-      → IsInOrder tells history extent (with_frozen c) fz ch buffer spare
-  order-frozen c ch fz buffer spare o consistent = record {
-    coherent = coherent-frozen c o.coherent consistent;
-    changes_size = o.frozen_size;
-    frozen_size = o.changes_size;
     buffer_long = o.buffer_long;
     spare_long = o.spare_long;
     kept_bytes = o.kept_bytes;

@@ -99,7 +99,3 @@ ready_fewer order m node leaves some within r = record {
 } where
   more : (k j : ℕ) → IsAbove m.holdings.size some k j → IsAbove m.holdings.size leaves k j
   more k j a = record { leaf = a.leaf; one = within a.leaf a.one; above = a.above }
-
--- what leaves all but fewer leaves leaves all but more
-pub only_more : (order : Order) (m : BlockState) (node : Root) (leaves some : ℕ → Type 0) (g : ℕ → List ℕ) → ((i : ℕ) → some i → leaves i) → IsOnly order m node some g → IsOnly order m node leaves g
-only_more order m node leaves some g within only = λ b out. only b (λ i one. out i (within i one))

@@ -1,12 +1,12 @@
 -- The bytes of a range that lie in one leaf.
-use Rattle.std.proofs.Common.{◌≡◌, ℕ, ◌+◌, ◌-◌, ◌*◌, ◌/◌, ◌<◌, ◌≤◌, ◌^◌, min, List, ◌++◌, length, take, drop, replicate, refl, sym, ◌∙◌, ap, subst, arith, append_assoc, length-drop, inl, inr}
+use Rattle.std.proofs.Common.{◌≡◌, ℕ, ◌+◌, ◌-◌, ◌*◌, ◌/◌, ◌<◌, ◌≤◌, min, List, ◌++◌, length, take, drop, replicate, refl, sym, ◌∙◌, ap, subst, arith, append_assoc, length-drop, inl, inr}
 use Rattle.std.specs.Prelude.{slice_range}
 use Rattle.std.proofs.lemmas.List.{drop-drop, length-take-le, take_min, take-replicate, drop-replicate}
 use Rattle.std.proofs.Math.Nat.{le-div_iff_mul-le}
 use Rattle.qx_bytes.specs.Ranges.{put_at}
 use Rattle.qx_bytes.proofs.Puts.{length_put}
 use Rattle.qx_blocks.specs.BlockState.{IsBlockSize}
-use Rattle.qx_file.specs.Puts.{HasByte, leaves_end, with_part}
+use Rattle.qx_file.specs.Puts.{HasByte, with_part}
 
 -- bytes that were lent from a place on and came back as others are put there
 pub part_put : (old part : List ℕ) (place count : ℕ) → length part ≡ count → take place old ++ (part ++ drop (place + count - place) (drop place old)) ≡ put_at old place part
@@ -47,16 +47,6 @@ pub part_of_fill : (total from count byte : ℕ) → from + count ≤ total → 
 part_of_fill total from count byte within =
     let rest : from + count - from ≡ count = omega arith in
     sym (ap (λ n. take n (drop from (replicate total byte))) rest ∙ ap (λ (l : List ℕ). take count l) (drop-replicate from total byte) ∙ take-replicate count (total - from) byte (omega arith))
-
--- the leaves of a file end where a number of 64 bits does, or before
-pub end_fits : (blocksize size : ℕ) → IsBlockSize blocksize → size < 2 ^ 64 → leaves_end blocksize size ≤ 2 ^ 64
-end_fits blocksize size k fits = elim k [
-  | inl is ↦ rw is (omega arith)
-  | inr more ↦ elim more [
-    | inl is ↦ rw is (omega arith)
-    | inr more ↦ elim more [ inl is ↦ rw is (omega arith) | inr is ↦ rw is (omega arith) ]
-  ]
-]
 
 -- how many bytes a lent part has
 pub taken_length : (xs : List ℕ) (place count : ℕ) → place + count ≤ length xs → length (take (place + count - place) (drop place xs)) ≡ count

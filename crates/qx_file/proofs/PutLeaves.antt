@@ -1,5 +1,5 @@
 -- Bytes that are put into one leaf after another.
-use Rattle.std.proofs.Common.{◌≡◌, ℕ, ◌+◌, ◌/◌, ◌<◌, inl, inr, List, length, refl, sym, ◌∙◌, ap, subst, arith}
+use Rattle.std.proofs.Common.{◌≡◌, ℕ, ◌+◌, ◌<◌, inl, inr, List, length, refl, sym, ◌∙◌, ap, subst, arith}
 use Rattle.std.proofs.lemmas.Bool.{cases_eq}
 use Rattle.qx_fields.specs.declared.order.Order.{Order}
 use Rattle.qx_geom.specs.declared.root.Root.{Root}
@@ -17,16 +17,6 @@ pub record PutsBefore (order : Order) (node : Root) (at : ℕ) (bytes : List ℕ
   pub leaves : (i : ℕ) → HasByte m.holdings.size at (length bytes) i → i < last
       → n.bytes (leaf_block order m node i) ≡ with_part m.holdings.size i at bytes (m.bytes (leaf_block order m node i))
   pub others : (b : ℕ) → ((i : ℕ) → HasByte m.holdings.size at (length bytes) i → i < last → ¬ (leaf_block order m node i ≡ b)) → n.bytes b ≡ m.bytes b
-
--- at first
-pub puts_none : (order : Order) (node : Root) (at : ℕ) (bytes : List ℕ) (m : BlockState) (first : ℕ) → first ≡ at / m.holdings.size → PutsBefore order node at bytes m m first
-puts_none order node at bytes m first is = record {
-  holdings = refl;
-  tells = refl;
-  history = refl;
-  leaves = λ i has low. absurd (omega (arith, has.first));
-  others = λ b out. refl;
-}
 
 -- at last
 pub puts_all : (order : Order) (node : Root) (at : ℕ) (bytes : List ℕ) (m n : BlockState) (last : ℕ) → ((i : ℕ) → HasByte m.holdings.size at (length bytes) i → i < last) → PutsBefore order node at bytes m n last → Puts order node at bytes m n

@@ -113,9 +113,6 @@ module _ (g : Geometry) (e : IsGeometry g) (order : Order) (moment : ℕ) where
 
       -- the sync behind them
       module _ {T E : Type 0} where
-        pub blocks_fail : (inner result : Result T E) (a b : D) → IsErr inner → IsErr result → PutsAll tells history stage inner a b → Performs tells history stage result a b
-        blocks_fail inner result a b broken err p = record { reaches = p.reaches; ok = none_of_err tells history stage result _ err; kept = none_of_err tells history stage result _ err; others = p.others }
-
         begun_by : (x : T) (a b : D) → PutsAll {E = E} tells history stage (Ok x) a b → HasBegun tells history stage (after_stage stage) a b
         begun_by x a b p = record { moves = p.ok; bytes = p.now; others = p.others }
 

@@ -27,7 +27,6 @@ pub mod NewBitmap
 pub mod NewWalk
 pub mod NewReasons
 pub mod NewSoundness
-pub mod NewSupers
 pub mod BytesAt
 pub mod SuperblocksAt
 pub mod TornAreas
@@ -38,6 +37,5 @@ pub mod NewVolume
 pub mod OldVolume
 pub mod ClearedAreas
 pub mod OldAreas
-pub mod StageOrder
 pub mod TornStages
 pub mod TornImages

@@ -3,8 +3,6 @@ use Rattle.std.proofs.Common.{◌≡◌, ℕ, zero, suc, ◌+◌, ◌^◌, ◌<�
 use Rattle.std.specs.Prelude.{Contains}
 use Rattle.std.proofs.lemmas.List.{length-replicate}
 use Rattle.std.proofs.lemmas.List.Elements.{Contains-append_cases}
-use Rattle.qx_outside.specs.Puts.{IsAtRest}
-use Rattle.qx_outside.proofs.PuttingMoments.{IsPutting-rest}
 use Rattle.qx_outside.specs.Trail.{History, resized}
 use Rattle.qx_fields.specs.declared.order.Order.{Order}
 use Rattle.qx_geom.specs.declared.area.Which.{Which}
@@ -21,7 +19,7 @@ use Rattle.qx_view.specs.Images.{image_blocks}
 use Rattle.qx_view.specs.Sound.{IsSound}
 use Rattle.qx_make.specs.Blocks.{AreMade}
 use Rattle.qx_make.specs.Cut.{HasNoOtherSuperblock, IsLeftByMaker, IsTorn, LeavesByMaker, last_place, new_volume, nothing, places_of}
-use Rattle.qx_make.specs.Stages.{IsInStage, Passes, Stage, after_stage, areas_stage, make_stages, new_stages, old_places, places_by, rest_stage, with_areas, with_blocks, with_supers, zero_stage, zero_stages, zeroed}
+use Rattle.qx_make.specs.Stages.{IsInStage, Stage, after_stage, areas_stage, make_stages, new_stages, old_places, places_by, rest_stage, with_areas, with_blocks, with_supers, zero_stage, zero_stages, zeroed}
 use Rattle.qx_make.specs.Superblocks.{made_super}
 use Rattle.qx_make.proofs.BytesAt.{HasSame, HasZeros-same, HasZeros-within, byte_of_resized, byte_of_zeros, length-resized}
 use Rattle.qx_make.proofs.ClearedAreas.{IsCleared, IsCleared-first, IsCleared-none, IsCleared-second, nothing_last}
@@ -29,7 +27,6 @@ use Rattle.qx_make.proofs.NewVolume.{AreMade-done, active-done, active_area-bloc
 use Rattle.qx_make.proofs.NewSuperblocks.{last_place-second, neither_active, second-behind, second-room}
 use Rattle.qx_make.proofs.OldAreas.{left-first_itself, left-first_other, left-none, left-second_itself, left-second_other}
 use Rattle.qx_make.proofs.OldVolume.{IsActiveFirst-is, IsActiveSecond-is}
-use Rattle.qx_make.proofs.StageOrder.{next_stage}
 use Rattle.qx_make.proofs.SuperblocksAt.{none_active, second_at, second_at-none, super_at, super_at-zeros}
 use Rattle.qx_make.proofs.TornImages.{IsTorn-image}
 use Rattle.qx_make.proofs.TornAreas.{AreZeros-both, one_of_two, only_one, torn_rest, torn_zeros}
@@ -184,14 +181,3 @@ module _ (old : List ℕ) (size : ℕ) (t : Tree) (agree : active_area old ≡ p
     pub leaves_in_stage : (h : History) → IsInStage (make_stages g order moment size old) h → LeavesByMaker old size t h
     leaves_in_stage h inside img is no_chance =
         torn_is_left inside.stage inside.among img (IsTorn-image inside.stage (places_of old size) h img inside.putting is no_chance)
-
-    -- and while the device is at rest before a stage
-    pub leaves_at_rest : (stage : Stage) → Contains (make_stages g order moment size old) stage → (h : History) → IsAtRest stage.kept h → LeavesByMaker old size t h
-    leaves_at_rest stage among h rest = leaves_in_stage h (record { stage = stage; among = among; putting = IsPutting-rest stage.kept stage.puts h rest })
-
-    -- so at each moment of a stage, up to the sync that ends it
-    pub leaves_as_it_passes : (stage : Stage) → Contains (make_stages g order moment size old) stage → (h : History) → Passes stage h → LeavesByMaker old size t h
-    leaves_as_it_passes stage among h (inl putting) = leaves_in_stage h (record { stage = stage; among = among; putting = putting })
-    leaves_as_it_passes stage among h (inr rest) =
-        let n = next_stage g order moment size old stage among in
-        leaves_at_rest n.next n.among h (subst (λ (bytes : List ℕ). IsAtRest bytes h) (sym n.kept_is) rest)

@@ -1,6 +1,6 @@
 -- What a passage through one pointer does.
 use Rattle.std.proofs.Common.{◌≡◌, ◌≢◌, ℕ, zero, suc, ◌+◌, ◌-◌, ◌*◌, ◌^◌, ◌<◌, ◌≤◌, List, [], ◌∷◌, ◌++◌, length, refl, sym, ◌∙◌, ap, subst, arith}
-use Rattle.std.specs.Prelude.{Bool, true, false, not, ◌||◌, ◌&&◌, ◌==◌, nat_eq, nat_lt, if◌then◌else◌, Some, Result, Ok, Err, IfErr, IfOk, OnOk, map, filter}
+use Rattle.std.specs.Prelude.{Bool, true, false, not, ◌||◌, ◌&&◌, ◌==◌, nat_eq, nat_lt, if◌then◌else◌, Some, Result, Ok, Err, map, filter}
 use Rattle.std.specs.List.{find, list_any}
 use Rattle.std.specs.Option.{option_map}
 use Rattle.std.proofs.lemmas.Bool.{eqb-true}
@@ -12,8 +12,8 @@ use Rattle.qx_nodes.specs.BlockMap.{BlockMap, word}
 use Rattle.qx_nodes.specs.Visits.{Visit, is_leaf, visits_under}
 use Rattle.qx_nodes.specs.ForeignNodes.{is_stray_under}
 use Rattle.qx_view.specs.Walk.{Met, Test, Tested, visit_tests}
-use Rattle.qx_pointers.proofs.PassedTests.{goes_as, goes_fails, goes_for_memory, goes_then}
-use Rattle.qx_pointers.proofs.PointerVisits.{AreOf, Begins, Meets, are_of, begins, block_at, meets_absent, meets_block, meets_leaf, meets_stray, parts_of}
+use Rattle.qx_pointers.proofs.PassedTests.{goes_as, goes_fails, goes_then}
+use Rattle.qx_pointers.proofs.PointerVisits.{AreOf, Begins, Meets, are_of, begins, block_at, meets_absent, meets_block, meets_stray, parts_of}
 use Rattle.qx_pointers.proofs.SeenParts.{sees_nothing, tests_at}
 use Rattle.qx_pointers.specs.declared.halt.Halt.{Halt}
 use Rattle.qx_pointers.specs.declared.halt.Halt.TheVariants as halts
@@ -21,7 +21,7 @@ use Rattle.qx_pointers.specs.declared.node.LeafPlace.{LeafPlace}
 use Rattle.qx_pointers.specs.declared.node.Part.{Part}
 use Rattle.qx_pointers.specs.declared.node.Visitor.{Visitor}
 use Rattle.qx_pointers.specs.Marks.{GoesThrough}
-use Rattle.qx_pointers.specs.Parts.{IsSeen, has_bare_under, is_end, kept_leaves, leaf_at, leaf_part, nothing, place_of}
+use Rattle.qx_pointers.specs.Parts.{IsSeen, has_bare_under, is_end, kept_leaves, nothing, place_of}
 use Rattle.qx_pointers.specs.Passage.{Sees, bare_beside, strays_beside, visits_beside}
 
 -- codes 2 and 3 at a pointer
@@ -71,22 +71,6 @@ module _ (m : BlockMap) (visitor : Visitor) (last : ℕ) where
         part = tt;
         leaves = tt;
       }
-
-  -- it leads to a leaf
-  pub sees_leaf : (level index p : ℕ) (r : Result Part Halt) (a b : Members) (xs ys : List LeafPlace) → level ≡ 0 → p ≢ absent → index * per_block m.size ^ level < last
-      → GoesThrough {T = Unit {0}} (pointer_tests visitor.inode m.count p) (Ok tt) a b
-      → IfOk r (λ part. part ≡ leaf_part last (leaf_at index p)) → OnOk r (ys ≡ xs ++ kept_leaves visitor.keeps (leaf_at index p ∷ [])) → IfErr r (λ halt. halt ≡ halts.NoMemory) → SeesUnder level index p r a b xs ys
-  sees_leaf level index p r a b xs ys zero_is there below passed part kept memory =
-      subst (λ z. SeesUnder z index p r a b xs ys) (sym zero_is)
-      (sees_as 0 index p (leaf_at index p ∷ []) false false r a b xs ys (meets_leaf m last index p there (subst (λ z. index * per_block m.size ^ z < last) zero_is below)) (go r part kept memory))
-    where
-      go : (r : Result Part Halt) → IfOk r (λ part. part ≡ leaf_part last (leaf_at index p)) → OnOk r (ys ≡ xs ++ kept_leaves visitor.keeps (leaf_at index p ∷ [])) → IfErr r (λ halt. halt ≡ halts.NoMemory) → Sees m visitor last (leaf_at index p ∷ []) false false r a b xs ys
-      go (Ok part) is kept memory = record {
-        tests = goes_as (pointer_tests visitor.inode m.count p) tt part a b passed;
-        part = subst (λ z. IsSeen last (leaf_at index p ∷ []) false false z) (sym is) (record { leaves = refl; strays = refl; bare = refl; end = refl });
-        leaves = kept;
-      }
-      go (Err halt) is kept memory = record { tests = subst (λ z. GoesThrough {T = Part} (pointer_tests visitor.inode m.count p) (Err z) a b) (sym memory) (goes_for_memory (pointer_tests visitor.inode m.count p) a b); part = tt; leaves = tt }
 
   -- a block isn't a leaf
   above : (l index p : ℕ) → is_leaf (block_at (suc l) index p) ≡ false

@@ -41,11 +41,3 @@ goes_fails as' bs halt a b c p = record {
 -- the same tests with another value
 pub goes_as : {T U : Type 0} (as' : List Test) (x : T) (y : U) (a b : Members) → GoesThrough as' (Ok x) a b → GoesThrough as' (Ok y) a b
 goes_as as' x y a b p = record { answer = λ met marks. p.answer met marks; marks = λ met marks. p.marks met marks }
-
--- the device or the memory ends any tests
-pub goes_for_device : {T : Type 0} (as' : List Test) (a b : Members) → GoesThrough {T = T} as' (Err halts.Device) a b
-goes_for_device as' a b = record { answer = λ met marks. tt; marks = λ met marks. tt }
-
--- want of memory does
-pub goes_for_memory : {T : Type 0} (as' : List Test) (a b : Members) → GoesThrough {T = T} as' (Err halts.NoMemory) a b
-goes_for_memory as' a b = record { answer = λ met marks. tt; marks = λ met marks. tt }

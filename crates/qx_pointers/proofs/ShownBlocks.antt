@@ -1,6 +1,6 @@
 -- A device that is only read shows the same blocks before as after.
 use Rattle.std.proofs.Common.{◌≡◌, ℕ, ◌+◌, ◌*◌, ◌≤◌, List, [], ◌∷◌, refl, sym, ◌∙◌, ap, arith}
-use Rattle.std.specs.Prelude.{Bool, Option, Result}
+use Rattle.std.specs.Prelude.{Bool, Option}
 use Rattle.qx_outside.specs.Causes.{Rose}
 use Rattle.qx_outside.specs.Trail.{History, bytes_of}
 use Rattle.qx_outside.specs.declared.event.Attachment.{Attachment}
@@ -11,9 +11,7 @@ use Rattle.qx_fields.specs.Number.{field, fields}
 use Rattle.qx_geom.specs.Lists.{each_below}
 use Rattle.qx_geom.specs.Pointer.{per_block}
 use Rattle.qx_nodes.specs.BlockMap.{BlockMap, word}
-use Rattle.qx_pointers.specs.declared.halt.Halt.{Halt}
 use Rattle.qx_pointers.specs.declared.source.Shape.{Shape}
-use Rattle.qx_pointers.specs.Halts.{IsCaused}
 use Rattle.qx_pointers.specs.Shown.{JustReads, Shows, shape_blocks}
 
 module _ {D : Type 0} {tells : D → Bool} {history : D → History} {attached : D → Option (List Attachment)} {con_faults : D → ℕ} where
@@ -37,10 +35,6 @@ module _ {D : Type 0} {tells : D → Bool} {history : D → History} {attached :
 -- faults that rose later rose from before
 pub rose_from : (a b c : ℕ) → a ≤ b → Rose b c → Rose a c
 rose_from a b c h r = omega (arith, h, r)
-
--- what is explained from a later count on is explained from an earlier one
-pub caused_from : {T : Type 0} (a b c : ℕ) (r : Result T Halt) → a ≤ b → IsCaused b c r → IsCaused a c r
-caused_from a b c r h p = record { later = omega (arith, h, p.later); device = λ e. rose_from a b c h (p.device e) }
 
 -- one function of places that are the same
 map_alike : (f g : ℕ → ℕ) (h : ℕ → ℕ) → ((w : ℕ) → f w ≡ g w) → (xs : List ℕ) → map (λ w. h (f w)) xs ≡ map (λ w. h (g w)) xs

@@ -5,13 +5,13 @@ use Rattle.std.proofs.lemmas.List.{append-nil, append_assoc}
 use Rattle.std.proofs.lemmas.List.Elements.{Contains-append_cases}
 use Rattle.qx_geom.specs.Lists.{is_in}
 use Rattle.qx_geom.proofs.Members.{Contains-cases, in_append_cases, in_cases, in_head, in_left, in_right}
-use Rattle.qx_blocks.specs.BlockState.{BlockState, Holdings}
-use Rattle.qx_blocks.specs.Calls.{Keeps, MakesReady}
+use Rattle.qx_blocks.specs.BlockState.{BlockState}
+use Rattle.qx_blocks.specs.Calls.{MakesReady}
 use Rattle.qx_ptree.specs.Building.{with_released, work_edited, work_kept, work_lost, work_moved, work_taken}
 use Rattle.qx_ptree.specs.Takings.{Adds, Takes}
 use Rattle.qx_ptree.specs.WorkState.{CanEdit, EditState, WorkState, and_then, no_work}
 use Rattle.qx_ptree.proofs.ListedBlocks.{either_left}
-use Rattle.qx_ptree.proofs.TakenBlocks.{Takes-after, Takes-before, Takes-none, Takes-ready, Takes-then, ready-made}
+use Rattle.qx_ptree.proofs.TakenBlocks.{Takes-ready, Takes-then, ready-made}
 
 -- ---- the work itself
 
@@ -174,24 +174,4 @@ adds_released m n before after blocks f noted = record {
   takes = f;
   kept = λ q t. absurd (nothing_in q t);
   edits = CanEdit-none n (with_released no_work blocks) refl;
-}
-
--- no more than bytes untold came before
-abbrev pub adds_after : (m n o : BlockState) (a b : WorkState) → Keeps m n → Adds n o a b → Adds m o a b
-adds_after m n o a b k g = record {
-  added = g.added;
-  is = g.is;
-  takes = Takes-after g.added.fresh m n o k g.takes;
-  kept = g.kept;
-  edits = g.edits;
-}
-
--- no more than bytes untold came afterwards
-abbrev pub adds_before : (m n o : BlockState) (a b : WorkState) → Adds m n a b → Keeps n o → Adds m o a b
-adds_before m n o a b f k = record {
-  added = f.added;
-  is = f.is;
-  takes = Takes-before f.added.fresh m n o f.takes k;
-  kept = λ q t. ap (λ (h : Holdings). h.ready q) k.holdings ∙ f.kept q t;
-  edits = CanEdit-later [] n o f.added (Takes-none n o k) f.edits;
 }

@@ -226,7 +226,3 @@ plan_after f m n plan s long met t =
             (met.regular (t.told_before told)).apart u v (subst (λ xs. Contains xs u) vs a) (subst (λ xs. Contains xs v) vs b) same;
       };
     }
-
--- and all that is known of it
-pub told_after : (f : List ℕ) (m n : BlockState) (plan : Plan) → IsToldPlan m plan → Takes f m n → IsTrue n.tells → IsConsistent n → IsToldPlan n plan
-told_after f m n plan p t told s = record { consistent = s; long = p.long; met = plan_after f m n plan p.consistent p.long p.met t; told = told }

@@ -1,7 +1,6 @@
 -- The blocks of a part of a node, as they are noted to be given up.
 use Rattle.std.proofs.Common.{◌≡◌, ◌≢◌, ℕ, zero, suc, ◌+◌, ◌*◌, ◌-◌, ◌^◌, ◌<◌, ◌≤◌, ◌⊎◌, inl, inr, List, [], ◌∷◌, ◌++◌, length, append-nil, append_assoc, refl, sym, ◌∙◌, ap, subst, arith}
-use Rattle.std.specs.Prelude.{true, false, not, IsTrue, Result, Ok, Err, OnOk}
-use Rattle.std.specs.Result.{IsErr}
+use Rattle.std.specs.Prelude.{true, false, not, IsTrue, Result, Ok}
 use Rattle.std.proofs.Math.Nat.{mul-le-mul_right}
 use Rattle.std.proofs.Math.Numerals.{sub-one}
 use Rattle.std.proofs.lemmas.Bool.{cases_lt, eq-eqb}
@@ -51,10 +50,6 @@ blocks_join m plan one other inside xs ys a b cases left right = record {
   ];
 }
 
--- those of the same part in other words
-pub blocks_same : (m : BlockState) (plan : Plan) (one inside : ℕ → ℕ → Type 0) (xs : List ℕ) → IsBlocksOf m plan one xs → ((k j : ℕ) → inside k j → one k j) → ((k j : ℕ) → one k j → inside k j) → IsBlocksOf m plan inside xs
-blocks_same m plan one inside xs a to from = record { all = λ k j h there. a.all k j (to k j h) there; only = λ q s. let r = a.only q s in (r.0, r.1, from r.0 r.1 r.2, r.3, r.4) }
-
 -- ---- parts of a node
 
 -- no pointer stands below an absent one, but for the first block above the node's levels
@@ -101,11 +96,6 @@ reach_before b level i j h r =
     let less : (i + 1) * per_block b ^ level ≤ (j + 1) * per_block b ^ level = mul-le-mul_right (per_block b ^ level) (omega arith) in
     record { most = r.most; leaves = omega (arith, r.leaves) }
 
--- nothing is done where there is an error
-err_nothing : (A : Type 0) (result : Result A Stop) (T : Type 0) → IsErr result → OnOk result T
-err_nothing A (Ok x) T e = absurd (cc)
-err_nothing A (Err stop) T e = tt
-
 -- some work without more
 pub released_none : (w : WorkState) → w ≡ with_released w []
 released_none w = λ i. record w { released = sym (append-nil w.released) i }
@@ -113,10 +103,6 @@ released_none w = λ i. record w { released = sym (append-nil w.released) i }
 -- and with more than once
 pub released_twice : (u v w : WorkState) (xs ys : List ℕ) → v ≡ with_released u xs → w ≡ with_released v ys → w ≡ with_released u (xs ++ ys)
 released_twice u v w xs ys a b = b ∙ ap (λ x. with_released x ys) a ∙ (λ i. record u { released = append_assoc u.released xs ys i })
-
--- an error leaves what was noted
-pub gives_err : (m n : BlockState) (before after : WorkState) (plan : Plan) (inside : ℕ → ℕ → Type 0) (result : Result (Unit {0}) Stop) (blocks : List ℕ) → IsErr result → after ≡ with_released before blocks → GivesUp m n before after plan inside result
-gives_err m n before after plan inside result blocks e is = record { blocks = blocks; is = is; done = err_nothing (Unit {0}) result (IsTrue n.tells → IsBlocksOf m plan inside blocks) e }
 
 -- over blocks that were kept
 blocks_kept : (m n : BlockState) (plan : Plan) (inside : ℕ → ℕ → ℕ → Type 0) (xs : List ℕ) → n ≡ m → IsBlocksOf n plan (inside (per_block n.holdings.size)) xs → IsBlocksOf m plan (inside (per_block m.holdings.size)) xs

@@ -1,13 +1,13 @@
 -- Bounds on positions, and on how many blocks their parts take.
 use Rattle.std.proofs.Common.{◌≡◌, ℕ, zero, suc, ◌+◌, ◌-◌, ◌*◌, ◌^◌, ◌<◌, ◌≤◌, refl, sym, ◌∙◌, ap, subst, arith, pow-suc, lit<}
-use Rattle.std.specs.Prelude.{Bool, true, false, not, ◌&&◌, ◌||◌, if◌then◌else◌}
+use Rattle.std.specs.Prelude.{Bool}
 use Rattle.std.proofs.Math.Nat.{mul-le-mul_left, mul-le-mul_right, mul_assoc, mul_comm, one-le-pow, pow-le-pow_left, pow-le-pow_right}
 use Rattle.std.proofs.Math.Numerals.{sub-one}
 use Rattle.qx_geom.specs.Pointer.{per_block}
 use Rattle.qx_blocks.specs.BlockState.{IsBlockSize}
 use Rattle.qx_ptree.specs.declared.change.Fate.{Fate}
 use Rattle.qx_ptree.specs.declared.change.Fate.TheVariants.{Stays, Written, Goes}
-use Rattle.qx_ptree.specs.Parts.{leaf_part, own_need}
+use Rattle.qx_ptree.specs.Parts.{leaf_part}
 use Rattle.qx_ptree.specs.Plans.{InReach}
 
 -- ---- block sizes
@@ -66,14 +66,6 @@ top-reach b level j sized low first =
     record { most = low; leaves = omega arith }
 
 -- ---- how many blocks are taken
-
--- a block takes one at most
-pub own-few : (had private changed present : Bool) → own_need had private changed present ≤ 1
-own-few had private changed present = at_most (present && (not had || (changed && not private)))
-  where
-    at_most : (b : Bool) → (if b then 1 else 0) ≤ 1
-    at_most true = omega arith
-    at_most false = omega arith
 
 -- and one that isn't written takes none
 pub unwritten-none : (f : Fate) (had private : Bool) → (f ≡ Written → ⊥) → (leaf_part f had private).need ≡ 0

@@ -31,10 +31,6 @@ reaches_nothing m n plan work row tops none out = owns_none n work (IsOwnPositio
 pub reaches_no_work : (m n : BlockState) (plan : Plan) (row : Row) (tops : ℕ → ℕ) → ((k j : ℕ) → IsOwnPosition m plan row k j → ⊥) → Reaches m n plan no_work row tops
 reaches_no_work m n plan row tops out = reaches_nothing m n plan no_work row tops refl out
 
--- where blocks are to be given up
-pub reaches_released : (m n : BlockState) (plan : Plan) (blocks : List ℕ) (row : Row) (tops : ℕ → ℕ) → ((k j : ℕ) → IsOwnPosition m plan row k j → ⊥) → Reaches m n plan (with_released no_work blocks) row tops
-reaches_released m n plan blocks row tops out = reaches_nothing m n plan (with_released no_work blocks) row tops refl out
-
 -- of no blocks
 pub reaches_empty : (m n : BlockState) (plan : Plan) (level first : ℕ) (tops : ℕ → ℕ) → Reaches m n plan no_work (record { level = level; first = first; count = 0 }) tops
 reaches_empty m n plan level first tops =

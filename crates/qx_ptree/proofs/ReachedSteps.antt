@@ -1,5 +1,5 @@
 -- What reaches written leaves by the steps of a preparation.
-use Rattle.std.proofs.Common.{◌≡◌, ◌≢◌, ℕ, suc, ◌+◌, ◌*◌, ◌-◌, ◌^◌, ◌/◌, ◌<◌, ◌≤◌, inl, inr, List, [], ◌∷◌, ◌++◌, length, set, refl, sym, ◌∙◌, ap, subst, arith}
+use Rattle.std.proofs.Common.{◌≡◌, ◌≢◌, ℕ, suc, ◌+◌, ◌*◌, ◌-◌, ◌^◌, ◌/◌, ◌<◌, ◌≤◌, inl, inr, List, [], ◌++◌, length, set, refl, sym, ◌∙◌, ap, subst, arith}
 use Rattle.std.specs.Prelude.{Bool, true, ◌||◌, if◌then◌else◌, slice_index, Result}
 use Rattle.std.proofs.Math.Nat.{div-lt_iff_lt-mul, div-mul-le_self, one-le-pow}
 use Rattle.std.proofs.lemmas.List.{append-nil}
@@ -21,11 +21,11 @@ use Rattle.qx_ptree.specs.Reaching.{IsMarked, IsOwnPosition, Reaches, ReachesOnt
 use Rattle.qx_ptree.specs.ReadyLeaves.{IsAbove, IsReadyApart, IsWrittenBy, OwnAsLeft, StandIn}
 use Rattle.qx_ptree.specs.Takings.{Adds, Takes}
 use Rattle.qx_ptree.specs.WorkState.{Preparation, WorkState, all_blocks, committed, no_work, blocks_of}
-use Rattle.qx_ptree.proofs.AddedWork.{CanEdit-none, adds_lost, adds_none, adds_then, nothing_in}
+use Rattle.qx_ptree.proofs.AddedWork.{CanEdit-none, adds_none, adds_then, nothing_in}
 use Rattle.qx_ptree.proofs.ListedBlocks.{either_right}
 use Rattle.qx_ptree.proofs.OwnPositions.{above-up}
 use Rattle.qx_ptree.proofs.ReachedBlocks.{block_there, reaches_block_at, taken_there}
-use Rattle.qx_ptree.proofs.ReachedRows.{fresh_stay, own_leaf, reaches_later, reaches_leaf, reaches_next, reaches_next_top, reaches_no_work, reaches_nothing, reaches_sized}
+use Rattle.qx_ptree.proofs.ReachedRows.{fresh_stay, own_leaf, reaches_later, reaches_leaf, reaches_next, reaches_no_work, reaches_nothing, reaches_sized}
 use Rattle.qx_ptree.proofs.ReadyNodes.{IsReached, ready_node, stand_node}
 use Rattle.qx_ptree.proofs.UnderRows.{none_under, row_more, row_own}
 use Rattle.qx_ptree.proofs.WholeNeed.{leaves-reached}
@@ -69,11 +69,6 @@ pub onto_empty : (m n : BlockState) (before after : WorkState) (plan : Plan) (le
 onto_empty m n before after plan level first tops t same =
     onto_none m n before after plan (record { level = level; first = first; count = 0 }) tops t same (λ k j u. none_under (per_block m.holdings.size) (record { level = level; first = first; count = 0 }) k j refl u.under)
 
--- a block is to be given up
-pub onto_lost : (m n : BlockState) (before after : WorkState) (plan : Plan) (b : ℕ) (row : Row) (tops : ℕ → ℕ) → Takes [] m n → after ≡ record before { released = before.released ++ b ∷ [] } → ((k j : ℕ) → IsOwnPosition m plan row k j → ⊥)
-    → ReachesOnto m n before after plan row tops
-onto_lost m n before after plan b row tops t noted out = record { adds = adds_lost m n before after b t noted; reaches = reaches_nothing m n plan _ row tops refl out }
-
 -- several blocks are to be given up
 abbrev pub adds_released : (m n : BlockState) (before after : WorkState) (blocks : List ℕ) → Takes [] m n → after ≡ with_released before blocks → Adds m n before after
 adds_released m n before after blocks t noted = record {
@@ -105,17 +100,6 @@ onto_more m n o a b c plan level first w p pointers low r s = record {
   reaches = reaches_next m o plan r.adds.added s.adds.added level first w p pointers low
       (reaches_later m n o plan r.adds.added (record { level = level; first = first; count = w }) (λ x. slice_index pointers (x - first)) (fresh_stay r.adds.added.fresh s.adds.added.fresh m n o r.adds.takes s.adds.takes) r.reaches)
       (reaches_sized m n o plan s.adds.added (one_block level (first + w)) (λ x. p) r.adds.takes.size r.adds.takes.count s.reaches);
-}
-
--- of the node's own pointers
-pub onto_more_top : (m n o : BlockState) (a b c : WorkState) (plan : Plan) (level w p : ℕ) (pointers : List ℕ) → w < length pointers
-    → ReachesOnto m n a b plan (record { level = level; first = 0; count = w }) (slice_index pointers) → ReachesOnto n o b c plan (one_block level w) (λ x. p)
-    → ReachesOnto m o a c plan (record { level = level; first = 0; count = w + 1 }) (slice_index (set pointers w p))
-onto_more_top m n o a b c plan level w p pointers low r s = record {
-  adds = adds_then m n o a b c r.adds s.adds;
-  reaches = reaches_next_top m o plan r.adds.added s.adds.added level w p pointers low
-      (reaches_later m n o plan r.adds.added (record { level = level; first = 0; count = w }) (slice_index pointers) (fresh_stay r.adds.added.fresh s.adds.added.fresh m n o r.adds.takes s.adds.takes) r.reaches)
-      (reaches_sized m n o plan s.adds.added (one_block level w) (λ x. p) r.adds.takes.size r.adds.takes.count s.reaches);
 }
 
 -- the block above a row, whose pointer leads to a block where something is present
@@ -150,10 +134,6 @@ marked_none m plan row changed present out = record { marked = λ k j u. absurd 
 pub marked_empty : (m : BlockState) (plan : Plan) (level first : ℕ) (changed present : Bool) → IsMarked m plan (record { level = level; first = first; count = 0 }) changed present
 marked_empty m plan level first changed present =
     marked_none m plan (record { level = level; first = first; count = 0 }) changed present (λ k j u. none_under (per_block m.holdings.size) (record { level = level; first = first; count = 0 }) k j refl u.under)
-
--- something is
-pub marked_all : (m : BlockState) (plan : Plan) (row : Row) → IsMarked m plan row true true
-marked_all m plan row = record { marked = λ k j u. (refl, refl) }
 
 -- the size alone counts of the blocks
 pub marked_sized : (m o : BlockState) (plan : Plan) (row : Row) (changed present : Bool) → o.holdings.size ≡ m.holdings.size → IsMarked o plan row changed present → IsMarked m plan row changed present

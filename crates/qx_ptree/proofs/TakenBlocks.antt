@@ -1,9 +1,9 @@
 -- Calls that take blocks and change no others, one after another.
-use Rattle.std.proofs.Common.{◌≡◌, ℕ, ◌<◌, inl, inr, [], ◌∷◌, ◌++◌, List, refl, sym, ◌∙◌, ap, subst, arith}
+use Rattle.std.proofs.Common.{◌≡◌, ℕ, ◌<◌, inl, inr, [], ◌∷◌, ◌++◌, List, refl, sym, ◌∙◌, ap, arith}
 use Rattle.std.specs.Prelude.{true, false, IsTrue, replicate}
 use Rattle.std.proofs.Math.Bool.{or-false}
 use Rattle.std.proofs.lemmas.Bool.{or_cases}
-use Rattle.std.proofs.lemmas.List.{append-nil, length-append}
+use Rattle.std.proofs.lemmas.List.{length-append}
 use Rattle.qx_geom.specs.Lists.{is_in}
 use Rattle.qx_geom.proofs.Truths.{not_so, or_left, true_or_false}
 use Rattle.qx_geom.proofs.Members.{in_append_cases, in_cases}
@@ -103,25 +103,6 @@ Takes-one m n b bytes k unheld some holdings told ready = record {
   apart_twice : (q : ℕ) → (q ≡ b → ⊥) → put (put m.bytes b (replicate m.holdings.size 0)) b bytes q ≡ m.bytes q
   apart_twice q ne = put-other (put m.bytes b (replicate m.holdings.size 0)) b q bytes ne ∙ put-other m.bytes b q (replicate m.holdings.size 0) ne
 
--- a fresh block is written
-pub Takes-written : (fresh : List ℕ) (m n : BlockState) (b : ℕ) (bytes : List ℕ) → Takes fresh m n → is_in fresh b ≡ true → Takes fresh m (with_bytes n b bytes)
-Takes-written fresh m n b bytes f in' = record {
-  size = f.size;
-  count = f.count;
-  held = f.held;
-  works = f.works;
-  private = f.private;
-  ready = f.ready;
-  unheld = f.unheld;
-  unused = f.unused;
-  distinct = f.distinct;
-  free = f.free;
-  ready_bytes = λ q r. put-other n.bytes b q bytes (λ e. true_or_false (m.holdings.ready b) (ap m.holdings.ready (sym e) ∙ r) (f.unused b in').2) ∙ f.ready_bytes q r;
-  told_before = f.told_before;
-  told_bytes = λ t q held. put-other n.bytes b q bytes (λ e. true_or_false (m.holdings.held b) (ap m.holdings.held (sym e) ∙ held) (f.unheld b in')) ∙ f.told_bytes t q held;
-  told_history = f.told_history;
-}
-
 -- a fresh block, with the bytes 0
 pub Takes-fresh : (m : BlockState) (b : ℕ) → IsConsistent m → m.holdings.held b ≡ false → 0 < m.holdings.free → Takes (b ∷ []) m (with_fresh m b)
 Takes-fresh m b k unheld some = record {
@@ -185,7 +166,3 @@ Takes-then fs gs m n o f g = record {
 -- a call that takes nothing, and one that takes blocks
 pub Takes-after : (fresh : List ℕ) (m n o : BlockState) → Keeps m n → Takes fresh n o → Takes fresh m o
 Takes-after fresh m n o k g = Takes-then [] fresh m n o (Takes-none m n k) g
-
--- a call that takes blocks, and one that takes nothing
-pub Takes-before : (fresh : List ℕ) (m n o : BlockState) → Takes fresh m n → Keeps n o → Takes fresh m o
-Takes-before fresh m n o f k = subst (λ (l : List ℕ). Takes l m o) (append-nil fresh) (Takes-then fresh [] m n o f (Takes-none n o k))

@@ -38,12 +38,6 @@ row_own P row j from to =
     let same : j / P ^ (row.level - row.level) ≡ j = ap (λ d. j / P ^ d) none ∙ by_one j P in
     record { level = omega arith; from = omega (arith, same); to = omega (arith, same) }
 
--- what lies under one of a row's blocks
-pub row_of_one : (P : ℕ) (row : Row) (index k j : ℕ) → row.first ≤ index → index < row.first + row.count → LiesUnder P (one_block row.level index) k j → LiesUnder P row k j
-row_of_one P row index k j from to u =
-    let is : j / P ^ (row.level - k) ≡ index = under_index P row.level index k j u in
-    record { level = u.level; from = omega (arith, is); to = omega (arith, is) }
-
 -- none lies under a row of no blocks
 pub none_under : (P : ℕ) (row : Row) (k j : ℕ) → row.count ≡ 0 → LiesUnder P row k j → ⊥
 none_under P row k j none u = omega (arith, u.from, u.to)

@@ -26,10 +26,6 @@ use Rattle.qx_ptree.proofs.PointerCounts.{power_positive, size_positive, words_p
 pub works_below : (m : BlockState) (b : ℕ) → IsConsistent m → IsTrue (m.holdings.works b) → b < m.holdings.count
 works_below m b s w = s.numbers b (s.works_held b w)
 
--- so its number isn't the absent one
-pub works_there : (m : BlockState) (b : ℕ) → IsConsistent m → IsTrue (m.holdings.works b) → b ≢ absent
-works_there m b s w e = omega (arith, works_below m b s w, s.count)
-
 -- each pointer that is met leads to a block of the working tree
 abbrev AllWork : BlockState → List Visit → Type 0
 AllWork m vs = (v : Visit) → Contains vs v → IsTrue (m.holdings.works v.block)

@@ -2,7 +2,7 @@
 use Rattle.std.proofs.Common.{◌≡◌, ℕ, ◌+◌, ◌-◌, ◌*◌, ◌≤◌, List, [], ◌∷◌, length, replicate, drop, get_or, refl, ap, sym, ◌∙◌, arith, lit<, length-append}
 use Rattle.std.specs.Prelude.{slice_range, slice_index}
 use Rattle.std.proofs.lemmas.List.{get_or-take, get_or-drop}
-use Rattle.qx_bytes.proofs.Pieces.{Piece, joined, range_of_piece}
+use Rattle.qx_bytes.proofs.Pieces.{Piece, range_of_piece}
 use Rattle.qx_fields.specs.declared.order.Order.{Order}
 use Rattle.qx_fields.specs.Number.{digits, all_digits, field, fields}
 use Rattle.qx_fields.proofs.Fields.{length_digits, length_all_digits, field_spelled, fields_spelled}
@@ -16,10 +16,6 @@ module _ (order : Order) (root : Root) (sixteen : length root.pointers ≡ 16) w
       record { wide = 8; bytes = digits order 8 root.size; long = length_digits order 8 root.size }
       ∷ record { wide = 64; bytes = all_digits order 4 root.pointers; long = length_all_digits order 4 root.pointers ∙ ap (λ (n : ℕ). 4 * n) sixteen }
       ∷ record { wide = 1; bytes = root.levels ∷ []; long = refl } ∷ record { wide = 7; bytes = replicate 7 0; long = refl } ∷ []
-
-  pub root_bytes-is : root_bytes order root ≡ joined root_pieces []
-  unfolding root_bytes
-  root_bytes-is = refl
 
   pub length_root_bytes : length (root_bytes order root) ≡ 80
   unfolding root_bytes

@@ -417,10 +417,6 @@ module _ (m : BlockMap) (r : Roots) (t : Tree) (is : IsTreeOf m r t) where
   entry_named : (n : ℕ) → Named m r n → (e : Entry) × (entry_of t n ≡ Some e)
   entry_named n h = is.rooted.closed n (named_reached n h)
 
-  -- what a named directory names is there
-  named_there : (d n : ℕ) → Named m r d → is_in (named_inodes m r d) n ≡ true → (e : Entry) × (entry_of t n ≡ Some e)
-  named_there d n h k = entry_named n (next h k)
-
   -- two rows that name one directory are one
   one_row : (d k c j n : ℕ) → NamesAt t d k n → NamesAt t c j n → is_directory_inode m r n ≡ true → Named m r n → (d ≡ c) × (k ≡ j)
   one_row d k c j n a b dir named =

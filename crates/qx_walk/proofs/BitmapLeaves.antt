@@ -1,5 +1,5 @@
 -- The first wrong bit of a bitmap, leaf by leaf.
-use Rattle.std.proofs.Common.{◌≡◌, inl, inr, ℕ, ◌+◌, ◌-◌, ◌*◌, ◌/◌, ◌%◌, ◌^◌, ◌≤◌, ◌<◌, false, ap, sym, ◌∙◌, arith}
+use Rattle.std.proofs.Common.{◌≡◌, inl, inr, ℕ, ◌+◌, ◌-◌, ◌*◌, ◌/◌, ◌%◌, ◌≤◌, ◌<◌, false, ap, sym, ◌∙◌, arith}
 use Rattle.std.specs.Prelude.{None, Some, slice_index}
 use Rattle.std.specs.Int.{bit_at}
 use Rattle.std.proofs.Math.Nat.{mul-le-mul_right}
@@ -57,7 +57,3 @@ module _ (m : BlockMap) (g : Geometry) (which : Which) (met : Members) (leaf pla
           | inr here ↦ sym (leaf_bit b here (omega (arith, to, h.1))) ∙ h.3 b here to
         ],
       )
-
--- the numbers of a leaf's bytes are small
-pub begin_small : (leaf size : ℕ) → leaf ≤ 2 ^ 18 → size ≤ 4096 → leaf * size ≤ 2 ^ 50
-begin_small leaf size few small = let most : leaf * size ≤ 2 ^ 18 * size = mul-le-mul_right size few in omega (arith, most, small)

@@ -27,11 +27,6 @@ has_size m s g of size =
     let bounds = block_size-bounds g.blocksize (IsGeometry-keeps g of.volume).block_size in
     record { size = omega (arith, size, bounds.size_from); words = omega (arith, size, bounds.size_from) }
 
--- a finding by a tail that was noted
-pub tail_there : (m : BlockMap) (s : Superblock) (g : Geometry) (w : Walked) (n : ℕ) → IsWalked m (main_roots s) w → w.notes.tails ≡ Some n
-    → last_with m s (Some g) ≡ Some (record { code = 14; inode = n; block = 0xFFFFFFFF })
-tail_there m s g w n is e = ap (λ o. tail_finding o (are_counts_right m s g (main_roots s) (walked_inodes m (main_roots s)))) (sym is.notes.tails ∙ e)
-
 -- where none was noted the counts decide
 pub no_tail : (m : BlockMap) (s : Superblock) (g : Geometry) (w : Walked) → IsWalked m (main_roots s) w → w.notes.tails ≡ None
     → last_with m s (Some g) ≡ tail_finding None (are_counts_right m s g (main_roots s) (walked_inodes m (main_roots s)))

@@ -187,10 +187,6 @@ module _ (m : BlockMap) (s : Superblock) (room : HasSize m) (none : finding_of m
           ∙ (λ i. map_join block_at (placed m OfInodes s.inode) (placed m OfLongfile s.longfile) i ++ (map_join block_at (placed m (OfFurther 0) s.bitmap) [] ∙ end (map block_at (placed m (OfFurther 0) s.bitmap))) i)
           ∙ (λ i. (placed_blocks m OfInodes s.inode i ++ placed_blocks m OfLongfile s.longfile i) ++ placed_blocks m (OfFurther 0) s.bitmap i)
 
-  -- those of the Longfile and of the reached inodes are the outer blocks
-  outer_parts : outer_blocks m r ≡ long_blocks ++ reached_blocks
-  outer_parts = refl
-
   -- no block was met twice
   pub met_differ : all_differ (met_blocks m r) ≡ true
   met_differ = (met_once [] (tests_of m r) none).once

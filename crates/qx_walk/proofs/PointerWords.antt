@@ -30,10 +30,6 @@ all_below p n each = all_range p 0 n (λ k low high. each k (omega arith))
 pub not_below : (p : ℕ → Bool) (n k : ℕ) → k < n → p k ≡ false → list_all p (each_below n (λ j. j)) ≡ false
 not_below p n k low wrong = not_so (list_all p (each_below n (λ j. j))) (λ all. true_or_false (p k) (below_all p n k all low) wrong)
 
--- what an answer says of a fact
-pub fact_is : (fact answer b : Bool) → answer ≡ fact → answer ≡ b → fact ≡ b
-fact_is fact answer b is e = sym is ∙ e
-
 -- a pointer block is a block of the volume
 pub pointer_counted : (g : Geometry) (which : Which) (bitmap : Bool) (b : ℕ) → IsGeometry g → IsPointerBlock g which bitmap b → b < g.num_blocks
 pointer_counted g which bitmap b volume p =

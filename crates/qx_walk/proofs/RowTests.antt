@@ -102,10 +102,6 @@ tests_with m r at n sum kept name =
 abbrev tests_summed : BlockMap → Roots → Place → ℕ → Kept → List ℕ → Bool → List Test
 tests_summed m r at n kept name fits = Tested 7 at.inode at.block true ∷ Tested 8 at.inode at.block true ∷ Tested 9 at.inode at.block fits ∷ row_tests m r at kept.names kept.listed n name
 
--- a fault of the device says nothing of them
-pub long_unsaid : {T : Type 0} (m : BlockMap) (r : Roots) (at : Place) (n number sum : ℕ) (kept : Kept) (seen : Seen) (result : Result T Halt) → result ≡ Err halts.Device → WalksRecord {T = T} m r at (Long n number sum) kept result seen
-long_unsaid {T = T} m r at n number sum kept seen result e = subst (λ z. WalksRecord {T = T} m r at (Long n number sum) kept z seen) (sym e) (record { answer = λ met. tt; holds = tt })
-
 -- no name
 pub long_nameless : {T : Type 0} (m : BlockMap) (r : Roots) (at : Place) (n number sum : ℕ) (kept : Kept) (seen : Seen) (halt : Halt) → halt ≡ halts.Finding 8 at.inode at.block
     → long_name m r.longfile number ≡ None → WalksRecord {T = T} m r at (Long n number sum) kept (Err halt) seen

@@ -1,6 +1,6 @@
 -- The walk on its way through the list of inodes: what was taken, what is still to be taken, and that all that is left gives what is left of the tests.
 use Rattle.std.proofs.Common.{◌≡◌, ℕ, zero, suc, ◌+◌, ◌<◌, ◌≤◌, ◌⊎◌, inl, inr, List, [], ◌∷◌, ◌++◌, length, refl, sym, ◌∙◌, ap, subst, arith}
-use Rattle.std.specs.Prelude.{Bool, true, false, ◌||◌, Option, Some, None, is_some, map, flat_map}
+use Rattle.std.specs.Prelude.{Bool, true, false, ◌||◌, Some, None, is_some, map, flat_map}
 use Rattle.std.proofs.lemmas.Bool.{leb-true}
 use Rattle.qx_geom.proofs.Members.{in_append_cases, in_cases, in_head, in_left, in_right, in_tail}
 use Rattle.qx_geom.specs.Lists.{is_in}
@@ -97,10 +97,6 @@ pub record IsUnderway (m : BlockMap) (r : Roots) (before : List Taken) (queue : 
   pub met_is : met ≡ gone_through [] (tests_so_far m r before)
   pub members : (n : ℕ) → is_in listed n ≡ (is_in (inodes before) n || is_in (firsts queue) n)
   pub kinds : (n : ℕ) → is_in (firsts queue) n ≡ true → is_some (kind_of (inode_mode m r n)) ≡ true
-
--- a test that passes, and the others
-or_none : (o : Option Finding) → or_else None o ≡ o
-or_none o = refl
 
 -- all tests, in two parts
 tests_in_parts : (m : BlockMap) (r : Roots) (before rest : List Taken) → taken_of m r ≡ before ++ rest → tests_of m r ≡ tests_so_far m r before ++ flat_map (inode_tests m r) rest

@@ -6,15 +6,8 @@ use Rattle.qx_super.specs.Active.{active_area, active_super}
 use Rattle.qx_super.specs.Superblock.{Superblock}
 use Rattle.qx_super.specs.declared.choice.Pick.TheVariants as picks
 use Rattle.qx_view.specs.Images.{image_blocks, main_roots}
-use Rattle.qx_view.specs.Sound.{Clean, Damaged, Disagree, Foreign, NoVolume, Reason, last_finding, reason_of, verdict_at, verdict_by, verdict_of, verdict_with}
+use Rattle.qx_view.specs.Sound.{Clean, Damaged, Foreign, Reason, last_finding, reason_of, verdict_at, verdict_by, verdict_of, verdict_with}
 use Rattle.qx_view.specs.Walk.{Finding, finding_of}
-
--- without an active area there is no volume, or the areas disagree
-pub no_volume : (img : List ℕ) → active_area img ≡ picks.None → verdict_of img ≡ NoVolume
-no_volume img e = ap (verdict_at img) e
-
-pub disagree : (img : List ℕ) → active_area img ≡ picks.Disagree → verdict_of img ≡ Disagree
-disagree img e = ap (verdict_at img) e
 
 module _ (img : List ℕ) (which : Which) (s : Superblock) (active : active_area img ≡ picks.Active which) (names : active_super img ≡ Some s) where
   -- with one, it is by the first of a finding of the walk, a reason and a last finding

@@ -172,10 +172,6 @@ module _ (m : BlockMap) (r : Roots) (n parent : ℕ) (done : Done) (positive : 0
   tests_by : (k : Option Kind) → kind_of (inode_mode m r n) ≡ k → inode_tests m r (taken_with n parent done) ≡ kind_tests m r (taken_with n parent done) node k
   tests_by k is = ap (kind_tests m r (taken_with n parent done) node) is
 
-  -- what is listed and named where it is no directory
-  abbrev no_directory : Option Kind → Type 0
-  no_directory k = is_directory_kind k ≡ false
-
   -- an inode that is no directory adds what was met and what is noted
   remembers_plain : (k : Option Kind) (way new : Way) (seen : Seen) → kind_of (inode_mode m r n) ≡ k → is_directory_kind k ≡ false → Remembers m r done way seen
       → Marks new.met (gone_through done.met (kind_tests m r (taken_with n parent done) node k)) → IsNoted m r (n ∷ done.taken) new.notes → Remembers m r (with_inode m r n parent done) new seen

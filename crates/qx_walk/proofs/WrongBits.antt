@@ -2,7 +2,7 @@
 use Rattle.std.proofs.Common.{◌≡◌, ◌≢◌, inl, inr, ℕ, zero, suc, ◌+◌, ◌-◌, ◌*◌, ◌/◌, ◌%◌, ◌^◌, ◌≤◌, ◌<◌, Bool, true, false, List, length, get_or, refl, ap, sym, ◌∙◌, arith, w8}
 use Rattle.std.specs.Prelude.{◌==◌, ◌||◌, not, if◌then◌else◌, Some, bit_or, bit_xor, nat_le, nat_lt}
 use Rattle.std.specs.Int.{bit_at, trailing_zeros}
-use Rattle.std.proofs.lemmas.Bool.{cases_eq, cases_lt, eq-eqb, le-leb, lt-leb, lt-ltb, ne_eqb}
+use Rattle.std.proofs.lemmas.Bool.{cases_eq, cases_lt, eq-eqb, le-leb, lt-ltb, ne_eqb}
 use Rattle.std.proofs.lemmas.Nat.{xor_lt}
 use Rattle.std.proofs.lemmas.Nat.Bits.{bit_at-lt, bit_at-trailing_zeros, bit_at-zero, bit_at_ones, bit_at_set_other, bit_at_set_same, bit_at_xor, same_from_bits}
 use Rattle.qx_blockset.specs.Members.{Members, has}
@@ -32,31 +32,10 @@ past_wanted g met place h = all_wanted g met place (λ k low.
     or_true false true = refl
     or_true false false = refl
 
--- the bits of blocks behind the halves are those of the set
-pub met_wanted : (g : Geometry) (met : Members) (place byte : ℕ) → 2 * g.half ≤ place * 8 → place * 8 + 8 ≤ g.num_blocks → ((k : ℕ) → k < 8 → (bit_at byte k == 1) ≡ has met (place * 8 + k)) → IsWantedByte g met place byte
-met_wanted g met place byte from to is = λ k low.
-    let above : nat_lt (place * 8 + k) (2 * g.half) ≡ false = not_below (place * 8 + k) (2 * g.half) (omega (arith, from)) in
-    let inside : nat_le g.num_blocks (place * 8 + k) ≡ false = not_below' g.num_blocks (place * 8 + k) (omega (arith, to, low)) in
-    is k low ∙ sym ((λ i. above i || (has met (place * 8 + k) || inside i)) ∙ or_false (has met (place * 8 + k)))
-  where
-    not_below : (a b : ℕ) → b ≤ a → nat_lt a b ≡ false
-    not_below a b h = lt-leb (suc a) b (omega arith)
-
-    not_below' : (a b : ℕ) → b < a → nat_le a b ≡ false
-    not_below' a b h = lt-leb a b h
-
-    or_false : (x : Bool) → (false || (x || false)) ≡ x
-    or_false true = refl
-    or_false false = refl
-
 -- the bits of a byte up to one are as they must be, and the others are 0
 pub record IsFilledTo (g : Geometry) (met : Members) (place bit byte : ℕ) : Type 0 where
   pub done : (k : ℕ) → k < bit → (bit_at byte k == 1) ≡ is_wanted g met (place * 8 + k)
   pub rest : (k : ℕ) → bit ≤ k → bit_at byte k ≡ 0
-
--- none of it
-pub filled_none : (g : Geometry) (met : Members) (place : ℕ) → IsFilledTo g met place 0 0
-filled_none g met place = record { done = λ k low. absurd (omega (arith, low)); rest = λ k high. bit_at-zero k }
 
 -- one more that must be 1
 pub filled_one : (g : Geometry) (met : Members) (place bit byte : ℕ) → bit < 8 → is_wanted g met (place * 8 + bit) ≡ true → IsFilledTo g met place bit byte → IsFilledTo g met place (bit + 1) (bit_or byte (1 * 2 ^ bit % 2 ^ 8))
@@ -99,15 +78,6 @@ wrong_at g met begin bytes i wanted b w low high =
     ap (λ j. is_wrong g met b (bit_at (get_or bytes j 0) (b % 8))) place
     ∙ ap (λ n. is_wrong g met n (bit_at (get_or bytes i 0) (b % 8))) (sym whole)
     ∙ wrong_by g met (begin + i) wanted (b % 8) (bit_at (get_or bytes i 0) (b % 8)) w small
-
--- bits up to a byte that are right, with the byte's own
-pub right_byte : (g : Geometry) (met : Members) (begin : ℕ) (bytes : List ℕ) (i wanted : ℕ) → IsWantedByte g met (begin + i) wanted → get_or bytes i 0 ≡ wanted
-    → ((b : ℕ) → begin * 8 ≤ b → b < (begin + i) * 8 → is_wrong_in g met begin bytes b ≡ false)
-    → (b : ℕ) → begin * 8 ≤ b → b < (begin + (i + 1)) * 8 → is_wrong_in g met begin bytes b ≡ false
-right_byte g met begin bytes i wanted w is so_far b low high = elim (cases_lt b ((begin + i) * 8)) [
-  | inl before ↦ so_far b low before
-  | inr here ↦ wrong_at g met begin bytes i wanted b w here (omega (arith, high)) ∙ ap (λ t. not t) (eq-eqb (bit_at (get_or bytes i 0) (b % 8)) (bit_at wanted (b % 8)) (ap (λ x. bit_at x (b % 8)) is))
-]
 
 -- bytes that differ have a least bit that does
 differing : (a b : ℕ) → a < 2 ^ 8 → b < 2 ^ 8 → a ≢ b

@@ -7,18 +7,8 @@ use Rattle.qx_blocks.specs.Calls.{Keeps}
 use Rattle.qx_ptree.specs.declared.change.Change.{Change}
 use Rattle.qx_ptree.specs.Fates.{IsChange}
 use Rattle.qx_ptree.specs.Takings.{Takes}
-use Rattle.qx_ptree.specs.Trees.{HasLevels, IsRegular, IsWorking}
 use Rattle.qx_ptree.proofs.CarriedPlans.{plan_after}
-use Rattle.qx_ptree.proofs.KeptPlans.{told_before}
 use Rattle.tree_bench.specs.Nodes.{IsNode}
-
--- the call looked at blocks
-pub node-kept : (order : Order) (m n : BlockState) (node : Root) → Keeps m n → IsNode order m node → IsNode order n node
-node-kept order m n node k is = record {
-  levels = subst (λ h. HasLevels h.size node) (sym k.holdings) is.levels;
-  works = λ told. subst (λ x. IsWorking order x node) (sym (k.told told)) (is.works (told_before m n k told));
-  regular = λ told. subst (λ x. IsRegular order x node) (sym (k.told told)) (is.regular (told_before m n k told));
-}
 
 -- the call took blocks for a change
 pub node-taken : (order : Order) (fresh : List ℕ) (m n : BlockState) (node : Root) (c : Change) → IsConsistent m → length node.pointers ≡ 16 → IsChange m.holdings.size c → Takes fresh m n
