@@ -1,7 +1,7 @@
 -- The user blocks of a set.
-use Rattle.std.proofs.Common.{◌≡◌, ◌≢◌, ℕ, ◌+◌, ◌<◌, ◌≤◌, inl, inr, true, false, ◌&&◌, length, get_or, set, sym, ◌∙◌, ap, subst, arith}
+use Rattle.std.proofs.Common.{◌≡◌, ◌≢◌, ℕ, ◌+◌, ◌<◌, inl, inr, false, ◌&&◌, length, get_or, set, sym, ◌∙◌, ap, subst, arith}
 use Rattle.std.specs.Prelude.{nat_le, min}
-use Rattle.std.proofs.lemmas.Bool.{cases_eq, cases_lt}
+use Rattle.std.proofs.lemmas.Bool.{cases_eq, cases_lt, le-leb, lt-leb}
 use Rattle.std.proofs.lemmas.List.{ext_get_or, get_or-set_same, get_or-set_other, length-set, get_or_past}
 use Rattle.std.proofs.lemmas.List.FromFn.{length-map-range_with_len, get_or-map-range_with_len}
 use Rattle.qx_blockset.specs.Members.{Members, has}
@@ -15,23 +15,16 @@ length-users first s = length-map-range_with_len (λ b. nat_le first b && has s 
 pub has-users : (first : ℕ) (s : Members) (b : ℕ) → b < length s → has (users_in first s) b ≡ (nat_le first b && has s b)
 has-users first s b low = get_or-map-range_with_len (λ b. nat_le first b && has s b) 0 (length s) b b false low (omega arith)
 
--- a number from another on isn't below it
-pub le-true : (a b : ℕ) → a ≤ b → nat_le a b ≡ true
-le-true a b low = grind arith
-
-pub le-false : (a b : ℕ) → b < a → nat_le a b ≡ false
-le-false a b high = grind arith
-
 -- no block below the first user block is one
 pub users-below : (first : ℕ) (s : Members) (b : ℕ) → b < first → has (users_in first s) b ≡ false
 users-below first s b high = elim (cases_lt b (length s)) [
-  | inl low ↦ has-users first s b low ∙ ap (λ t. t && has s b) (le-false first b high)
+  | inl low ↦ has-users first s b low ∙ ap (λ t. t && has s b) (lt-leb first b high)
   | inr past ↦ get_or_past (users_in first s) b false (rw length-users past)
 ]
 
 -- of a set whose system blocks from none on are left out nothing is
 pub users-all : (s : Members) → users_in 0 s ≡ s
-users-all s = ext_get_or false (users_in 0 s) s (length-users 0 s) (λ q low. has-users 0 s q (subst (λ n. q < n) (length-users 0 s) low) ∙ ap (λ t. t && has s q) (le-true 0 q (omega arith)))
+users-all s = ext_get_or false (users_in 0 s) s (length-users 0 s) (λ q low. has-users 0 s q (subst (λ n. q < n) (length-users 0 s) low) ∙ ap (λ t. t && has s q) (le-leb 0 q (omega arith)))
 
 -- one block more is left out
 pub users-more : (first : ℕ) (s : Members) → first < length s → set (users_in first s) first false ≡ users_in (first + 1) s
@@ -46,8 +39,8 @@ users-more first s within =
     ]) where
       same : (q : ℕ) → q ≢ first → nat_le first q ≡ nat_le (first + 1) q
       same q apart = elim (cases_lt q first) [
-        | inl below ↦ le-false first q below ∙ sym (le-false (first + 1) q (omega arith))
-        | inr above ↦ le-true first q above ∙ sym (le-true (first + 1) q (omega arith))
+        | inl below ↦ lt-leb first q below ∙ sym (lt-leb (first + 1) q (omega arith))
+        | inr above ↦ le-leb first q above ∙ sym (le-leb (first + 1) q (omega arith))
       ]
 
 -- past the last block there is nothing to leave out
@@ -58,6 +51,6 @@ users-past first s =
     has-users (min first (length s)) s q low ∙ ap (λ t. t && has s q) (same q low) ∙ sym (has-users first s q low)) where
       same : (q : ℕ) → q < length s → nat_le (min first (length s)) q ≡ nat_le first q
       same q low = elim (cases_lt q first) [
-        | inl below ↦ le-false (min first (length s)) q (omega arith) ∙ sym (le-false first q below)
-        | inr above ↦ le-true (min first (length s)) q (omega arith) ∙ sym (le-true first q above)
+        | inl below ↦ lt-leb (min first (length s)) q (omega arith) ∙ sym (lt-leb first q below)
+        | inr above ↦ le-leb (min first (length s)) q (omega arith) ∙ sym (le-leb first q above)
       ]

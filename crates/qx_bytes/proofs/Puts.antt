@@ -4,6 +4,7 @@ use Rattle.std.specs.Prelude.{slice_range}
 use Rattle.std.specs.List.{replace_range}
 use Rattle.std.proofs.lemmas.List.{take_at, drop_at, take-append-le, drop-append-le, drop-take, take-take, drop-drop, length-take-le, get_or_append_left, get_or-append-add, get_or-take, get_or-drop}
 use Rattle.std.proofs.Math.Seq.{drop-append-add}
+use Rattle.qx_bytes.specs.Ranges.{put_at}
 
 -- what was put stands there
 pub range_put_same : (bytes others : List ℕ) (at n : ℕ) → length others ≡ n → at ≤ length bytes → slice_range (replace_range bytes at (at + n) others) at (at + n) ≡ others
@@ -99,3 +100,10 @@ range_range bytes from to i j within = elim (begins_or i j) [
       ∙ ap (λ (l : List ℕ). take (j - i) l) (drop-drop i from bytes)
       ∙ ap (λ (n : ℕ). take n (drop (from + i) bytes)) (let e : j - i ≡ from + j - (from + i) = omega arith in e)
 ]
+
+-- bytes that were lent and came back as others are put there
+pub part_put : (bytes part : List ℕ) (at wide : ℕ) → length part ≡ wide → take at bytes ++ (part ++ drop (at + wide - at) (drop at bytes)) ≡ put_at bytes at part
+part_put bytes part at wide long =
+    let behind : at + (at + wide - at) ≡ at + length part = omega arith in
+    sym (append_assoc (take at bytes) part (drop (at + wide - at) (drop at bytes)))
+    ∙ ap (λ rest. (take at bytes ++ part) ++ rest) (drop-drop (at + wide - at) at bytes ∙ ap (λ n. drop n bytes) behind)

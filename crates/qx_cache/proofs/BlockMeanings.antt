@@ -2,7 +2,7 @@
 use Rattle.std.proofs.Common.{◌≡◌, ◌≢◌, ℕ, ◌+◌, ◌-◌, ◌<◌, ◌≤◌, ◌⊎◌, inl, inr, Bool, true, false, not, ◌||◌, List, [], ◌∷◌, length, Option, None, Some, refl, sym, ◌∙◌, ap, subst, arith}
 use Rattle.std.specs.Prelude.{◌==◌, if◌then◌else◌, IsTrue, IfSome, is_some, unwrap_or, replicate}
 use Rattle.std.specs.Option.{option_or}
-use Rattle.std.proofs.lemmas.Bool.{cases_eq, eqb-true, eq-eqb}
+use Rattle.std.proofs.lemmas.Bool.{cases_eq, eqb-true, eq-eqb, or_right}
 use Rattle.std.proofs.lemmas.List.{length-set}
 use Rattle.std.proofs.lemmas.List.Sums.{count_by-le-length}
 use Rattle.std.proofs.lemmas.List.FromFn.{length-range_with_len}
@@ -54,18 +54,13 @@ changed-alike : (change frozen : Option (List ℕ)) (held : Bool) (one two : Lis
 changed-alike (Some bytes) frozen held one two is = refl
 changed-alike None frozen held one two is = absurd (cc is)
 
--- a truth stays behind another
-later : (u v : Bool) → v ≡ true → (u || v) ≡ true
-later true v is = refl
-later false v is = is
-
 -- without b nothing is taken out
 none_kept : (b : ℕ) (kept : List ℕ) → (is_kept kept b ≡ true → ⊥) → kept ≡ kept_but kept b
 none_kept b [] out = refl
 none_kept b (x ∷ kept) out =
     elim (x == b) as (λ t. (x == b) ≡ t → x ∷ kept ≡ (if not t then x ∷ kept_but kept b else kept_but kept b)) [
       | true ↦ λ e. absurd (out (ap (λ t. t || is_kept kept b) (eq-eqb b x (sym (eqb-true x b e)))))
-      | false ↦ λ _. ap (λ xs. x ∷ xs) (none_kept b kept (λ is. out (later (b == x) (is_kept kept b) is)))
+      | false ↦ λ _. ap (λ xs. x ∷ xs) (none_kept b kept (λ is. out (or_right (b == x) (is_kept kept b) is)))
     ] refl
 
 -- a frozen tree that is the working one, where there was none, holds nothing more
@@ -73,6 +68,11 @@ held_twice : (w f d : Bool) → f ≡ false → (w || w || d) ≡ (w || f || d)
 held_twice true false d is = refl
 held_twice false false d is = refl
 held_twice w true d is = absurd (cc is)
+
+-- no change is there
+pub none_there : (o : Option (List ℕ)) → is_some o ≡ false → o ≡ None
+none_there None is = refl
+none_there (Some x) is = absurd (cc is)
 
 -- nothing behind a change
 or_none : (o other : Option (List ℕ)) → other ≡ None → o ≡ option_or o other
@@ -168,10 +168,6 @@ module _ {H : Type 0} (tells : H → Bool) (history : H → History) where
 
         device : ℕ → List ℕ
         device q = device_block (bytes_of (history c.host)) c.size q
-
-        none_there : (o : Option (List ℕ)) → is_some o ≡ false → o ≡ None
-        none_there None is = refl
-        none_there (Some x) is = absurd (cc is)
 
         unfrozen : has c.space.frozen b ≡ false → get c.frozen_changes b ≡ None
         unfrozen out =

@@ -1,7 +1,7 @@
 -- What each step leaves of a cache's coherence.
 use Rattle.std.proofs.Common.{◌≡◌, ◌≢◌, ℕ, ◌<◌, ◌≤◌, Bool, true, false, not, ◌&&◌, ◌||◌, List, [], ◌∷◌, length, Option, None, Some, refl, sym, ◌∙◌, ap, subst, arith}
 use Rattle.std.specs.Prelude.{◌==◌, if◌then◌else◌, IsTrue, is_some, replicate, slice_set}
-use Rattle.std.proofs.lemmas.Bool.{eqb-true, eq-eqb}
+use Rattle.std.proofs.lemmas.Bool.{eqb-true, eq-eqb, or_right}
 use Rattle.std.proofs.lemmas.List.{length-set, length-replicate}
 use Rattle.std.proofs.lemmas.List.Sums.{length-filter, count_by-le-length}
 use Rattle.std.specs.Ordering.{nat_cmp}
@@ -51,16 +51,13 @@ pub kept-others : (kept : List ℕ) (b q : ℕ) → is_kept (kept_but kept b) q 
 kept-others [] b q is = absurd (cc is)
 kept-others (k ∷ kept) b q is =
     elim (k == b) as (λ t. (k == b) ≡ t → is_kept (if not t then k ∷ kept_but kept b else kept_but kept b) q ≡ true → (((q == k) || is_kept kept q) ≡ true) × (q ≢ b)) [
-      | true ↦ λ e h. let rest = kept-others kept b q h in (more (q == k) (is_kept kept q) rest.0, rest.1)
+      | true ↦ λ e h. let rest = kept-others kept b q h in (or_right (q == k) (is_kept kept q) rest.0, rest.1)
       | false ↦ λ e h.
           elim (q == k) as (λ u. (q == k) ≡ u → (u || is_kept (kept_but kept b) q) ≡ true → ((u || is_kept kept q) ≡ true) × (q ≢ b)) [
             | true ↦ λ same _. (refl, λ is_b. absurd (cc (e, eq-eqb k b (sym (eqb-true q k same) ∙ is_b))))
             | false ↦ λ _ later. kept-others kept b q later
           ] refl h
-    ] refl is where
-      more : (u v : Bool) → v ≡ true → (u || v) ≡ true
-      more true v is = refl
-      more false v is = is
+    ] refl is
 
 -- and they are no more than before
 pub kept-fewer : (kept : List ℕ) (b : ℕ) → length (kept_but kept b) ≤ length kept

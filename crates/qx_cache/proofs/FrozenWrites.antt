@@ -1,6 +1,6 @@
 -- What writing a block of the frozen tree leaves.
 use Rattle.std.proofs.Common.{◌≡◌, ◌≢◌, ℕ, ◌+◌, ◌≤◌, ◌⊎◌, Bool, true, false, ◌&&◌, ◌||◌, not, List, length, Option, None, Some, refl, sym, ◌∙◌, ap, subst, arith}
-use Rattle.std.specs.Prelude.{IsTrue, IfSome, is_some, slice_range}
+use Rattle.std.specs.Prelude.{IsTrue, IfSome, slice_range}
 use Rattle.std.specs.Option.{option_or}
 use Rattle.std.specs.FinMap.{get}
 use Rattle.qx_bytes.specs.Ranges.{put_at}
@@ -16,17 +16,13 @@ use Rattle.qx_cache.specs.Calls.{IsNext}
 use Rattle.qx_cache.specs.Coherence.{IsCoherent}
 use Rattle.qx_cache.proofs.BlockPlaces.{block-apart, place-next, places-apart}
 use Rattle.qx_cache.proofs.Spaces.{held-user}
+use Rattle.qx_cache.proofs.BlockMeanings.{none_there}
 
 -- what the frozen tree holds is held, and the working tree doesn't hold it alone
 frozen-held : (w f d : Bool) → f ≡ true → ((w || f || d) ≡ true) × ((w && not (f || d)) ≡ false)
 frozen-held true true d is = (refl, refl)
 frozen-held false true d is = (refl, refl)
 frozen-held w false d is = absurd (cc is)
-
--- no change is there
-none_there : (o : Option (List ℕ)) → is_some o ≡ false → o ≡ None
-none_there None is = refl
-none_there (Some x) is = absurd (cc is)
 
 -- a block that isn't changed is none of either map
 clean-parts : (change frozen : Option (List ℕ)) → option_or change frozen ≡ None → frozen ≡ None

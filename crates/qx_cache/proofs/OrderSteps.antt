@@ -1,7 +1,6 @@
 -- What each step leaves of the order of a cache's fields.
-use Rattle.std.proofs.Common.{◌≡◌, ℕ, Bool, true, false, List, [], ◌∷◌, ◌++◌, length, drop, Option, None, Some, refl, sym, ◌∙◌, ap, subst, arith, length-append, length-drop}
+use Rattle.std.proofs.Common.{◌≡◌, ℕ, Bool, true, false, List, [], ◌∷◌, length, Option, None, Some, refl, sym, ◌∙◌, ap, subst}
 use Rattle.std.specs.Prelude.{IsTrue, is_some, unwrap_or}
-use Rattle.std.proofs.lemmas.List.{length-take}
 use Rattle.std.specs.FinMap.{contains_key, empty, get}
 use Rattle.qx_outside.specs.Causes.{StaysWhereTold}
 use Rattle.qx_outside.specs.Trail.{History, bytes_of}
@@ -11,15 +10,12 @@ use Rattle.qx_patch.specs.PatchState as patch
 use Rattle.qx_blockset.specs.Members.{has}
 use Rattle.qx_alloc.specs.SpaceState.{SpaceState, IsConsistent, IsFree, is_held, is_private_in, limit_in}
 use Rattle.qx_alloc.specs.SpaceState as space
+use Rattle.qx_patch.proofs.OrderedEntries.{length-refit}
 use Rattle.qx_cache.specs.CacheState.{CacheState, device_block, edited_in, is_kept, refit, with_host, with_released, with_taken, with_thawed, with_written}
 use Rattle.qx_blocks.specs.BlockState.{IsBlockSize}
 use Rattle.qx_cache.specs.CacheView.{cache_in, IsInOrder}
 use Rattle.qx_cache.specs.Coherence.{HasRoom}
 use Rattle.qx_cache.proofs.CoherentSteps.{coherent-edited, coherent-host, coherent-kept, coherent-new, coherent-released, coherent-taken, coherent-thawed, coherent-written, kept-one, kept-others}
-
--- what is written over a block leaves its length
-pub length-refit : (old new : List ℕ) → length (refit old new) ≡ length old
-length-refit old new = omega (arith, length-take (length old) (new ++ drop (length new) old), length-append new (drop (length new) old), length-drop (length new) old)
 
 -- so it leaves the size of a block that is there
 refit-long : (o : Option (List ℕ)) (new : List ℕ) (size : ℕ) → is_some o ≡ true → ((old : List ℕ) → o ≡ Some old → length old ≡ size) → length (refit (unwrap_or o []) new) ≡ size

@@ -1,36 +1,11 @@
--- A node of nothing.
-use Rattle.std.proofs.Common.{◌≡◌, ℕ, ◌+◌, ◌-◌, ◌/◌, ◌<◌, ◌≤◌, ap, arith}
-use Rattle.std.specs.Prelude.{false, not, ◌||◌, ◌==◌, replicate}
-use Rattle.std.proofs.lemmas.Nat.{div_below}
+-- A file of nothing.
+use Rattle.std.proofs.Common.{arith}
 use Rattle.qx_fields.specs.declared.order.Order.{Order}
-use Rattle.qx_geom.specs.declared.root.Root.{Root}
-use Rattle.qx_geom.specs.Layout.{levels_for}
-use Rattle.qx_geom.specs.Pointer.{absent, ceil_div}
-use Rattle.qx_geom.proofs.LeastLevels.{levels_for-le}
 use Rattle.qx_blocks.specs.BlockState.{BlockState}
-use Rattle.qx_ptree.specs.Trees.{IsRegular, IsWorking}
+use Rattle.qx_ptree.specs.Trees.{IsWorking}
+use Rattle.qx_ptree.proofs.EmptyNodes.{empty_node}
+pub use Rattle.qx_ptree.proofs.EmptyNodes.{empty-regular as empty_regular}
 
--- it has no pointer
-abbrev pub empty_node : Root
-empty_node = record { size = 0; pointers = replicate 16 absent; levels = 0 }
-
--- it has no leaf
-no_leaves : (b : ℕ) → 0 < b → ceil_div 0 b ≡ 0
-no_leaves b some = let low : (0 + b - 1) / b < 1 = div_below (0 + b - 1) b 1 some (omega arith) in omega arith
-
--- no level is needed
-no_levels : (b : ℕ) → 0 < b → levels_for b (ceil_div 0 b) ≡ 0
-no_levels b some =
-    let none : levels_for b (ceil_div 0 b) ≤ 0 = levels_for-le b (ceil_div 0 b) 0 (omega (arith, no_leaves b some)) in
-    omega arith
-
--- so it is as this project writes nodes
-pub empty_regular : (order : Order) (m : BlockState) → 0 < m.holdings.size → IsRegular order m empty_node
-empty_regular order m some = record {
-  plain = ap (λ l. not (0 == l) || false) (no_levels m.holdings.size some);
-  apart = λ u v c d e. absurd (omega (arith, c.1));
-}
-
--- and it has no block
+-- it has no block
 pub empty_works : (order : Order) (m : BlockState) → IsWorking order m empty_node
 empty_works order m v c = absurd (omega (arith, c.1))

@@ -1,7 +1,6 @@
 -- What is put into leaves that are ready leaves the pointers to them.
-use Rattle.std.proofs.Common.{◌≡◌, ℕ, zero, suc, ◌+◌, ◌-◌, ◌*◌, ◌/◌, ◌%◌, ◌^◌, ◌≤◌, List, refl, sym, ◌∙◌, ap, subst, arith}
+use Rattle.std.proofs.Common.{◌≡◌, ℕ, zero, suc, ◌+◌, ◌-◌, ◌*◌, ◌/◌, ◌%◌, ◌≤◌, List, refl, sym, ◌∙◌, ap, subst, arith}
 use Rattle.std.specs.Prelude.{◌==◌, if◌then◌else◌, IsTrue}
-use Rattle.std.proofs.Math.Nat.{div-div-eq-div-mul, pow-suc}
 use Rattle.qx_fields.specs.declared.order.Order.{Order}
 use Rattle.qx_fields.specs.Number.{field}
 use Rattle.qx_geom.specs.declared.root.Root.{Root}
@@ -13,12 +12,8 @@ use Rattle.qx_blocks.specs.BlockState.{BlockState}
 use Rattle.qx_ptree.specs.Altered.{IsReadyLeaf}
 use Rattle.qx_ptree.specs.ReadyLeaves.{IsAbove, IsReadyApart}
 use Rattle.qx_ptree.specs.Trees.{block_map, pointer_at, pointer_from}
-use Rattle.qx_ptree.proofs.ReadyPaths.{pointer_at-depth}
+use Rattle.qx_ptree.proofs.ReadyPaths.{pointer_at-depth, index_over}
 use Rattle.qx_file.specs.Puts.{leaf_block}
-
--- the block above a leaf's block
-index_over : (P l i : ℕ) → i / P ^ l / P ≡ i / P ^ suc l
-index_over P l i = div-div-eq-div-mul i (P ^ l) P ∙ ap (λ q. i / q) (sym (pow-suc P l))
 
 -- only the blocks of these leaves may have other bytes than before
 abbrev pub IsOnly : Order → BlockState → Root → (ℕ → Type 0) → (ℕ → List ℕ) → Type 0

@@ -1,21 +1,12 @@
 -- The bytes of a range that lie in one leaf.
-use Rattle.std.proofs.Common.{◌≡◌, ℕ, ◌+◌, ◌-◌, ◌*◌, ◌/◌, ◌<◌, ◌≤◌, min, List, ◌++◌, length, take, drop, replicate, refl, sym, ◌∙◌, ap, subst, arith, append_assoc, length-drop, inl, inr}
+use Rattle.std.proofs.Common.{◌≡◌, ℕ, ◌+◌, ◌-◌, ◌*◌, ◌/◌, ◌<◌, ◌≤◌, min, List, ◌++◌, length, take, drop, replicate, refl, sym, ◌∙◌, ap, subst, arith, length-drop}
 use Rattle.std.specs.Prelude.{slice_range}
-use Rattle.std.proofs.lemmas.List.{drop-drop, length-take-le, take_min, take-replicate, drop-replicate}
+use Rattle.std.proofs.lemmas.List.{length-take-le, take_min, take-replicate, drop-replicate}
 use Rattle.std.proofs.Math.Nat.{le-div_iff_mul-le}
 use Rattle.qx_bytes.specs.Ranges.{put_at}
-use Rattle.qx_bytes.proofs.Puts.{length_put}
-use Rattle.qx_blocks.specs.BlockState.{IsBlockSize}
+use Rattle.qx_bytes.proofs.Puts.{length_put, part_put}
+pub use Rattle.qx_ptree.proofs.PointerCounts.{size_positive as size_some}
 use Rattle.qx_file.specs.Puts.{HasByte, with_part}
-
--- bytes that were lent from a place on and came back as others are put there
-pub part_put : (old part : List ℕ) (place count : ℕ) → length part ≡ count → take place old ++ (part ++ drop (place + count - place) (drop place old)) ≡ put_at old place part
-part_put old part place count long =
-    let only : place + count - place ≡ length part = omega (arith, long) in
-    let past : length part + place ≡ place + length part = omega arith in
-    ap (λ n. take place old ++ (part ++ drop n (drop place old))) only
-    ∙ ap (λ (l : List ℕ). take place old ++ (part ++ l)) (drop-drop (length part) place old)
-    ∙ sym (append_assoc (take place old) part (drop (place + length part) old))
 
 -- how far a leaf's bytes of a range reach in the range
 reach_of : (size at i : ℕ) → at < (i + 1) * size → (i + 1) * size - at - (i * size - at) ≡ size - (at - i * size)
@@ -69,13 +60,3 @@ has_last size n at count i last some is last_is has =
     let low : i ≤ (at + count - 1) / n = (le-div_iff_mul-le some).1 (omega (arith, has.last, has.some)) in
     let same : last ≡ (at + count - 1) / n = last_is ∙ ap (λ k. (at + count - 1) / k) is in
     omega arith
-
--- a block size isn't 0
-pub size_some : (size : ℕ) → IsBlockSize size → 0 < size
-size_some size k = elim k [
-  | inl is ↦ rw is (omega arith)
-  | inr more ↦ elim more [
-    | inl is ↦ rw is (omega arith)
-    | inr more ↦ elim more [ inl is ↦ rw is (omega arith) | inr is ↦ rw is (omega arith) ]
-  ]
-]

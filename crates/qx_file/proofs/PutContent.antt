@@ -18,10 +18,11 @@ use Rattle.qx_nodes.proofs.LeafPaths.{node_leaf_met}
 use Rattle.qx_blocks.specs.BlockState.{BlockState, IsConsistent}
 use Rattle.qx_ptree.specs.Trees.{IsRegular, IsWorking, block_map}
 use Rattle.qx_ptree.proofs.ReadyPaths.{leaf_at_end, pointer_bounds, top_below}
+use Rattle.qx_ptree.proofs.PointerCounts.{size_positive}
 use Rattle.qx_file.specs.Puts.{CanPut, HasByte, MeetsOnce, Puts, leaf_block, leaves_end, with_part}
 use Rattle.qx_ptree.proofs.AgreeingPointers.{AgreesAbove, leaf_above, plain_above, visits_above}
 use Rattle.qx_file.proofs.KeptPointers.{above_itself, is_with_all, leaf_ready}
-use Rattle.qx_file.proofs.PartBytes.{ends_past, size_some}
+use Rattle.qx_file.proofs.PartBytes.{ends_past}
 
 -- ---- one leaf
 
@@ -155,7 +156,7 @@ module _ (order : Order) (m n : BlockState) (node : Root) (at : ℕ) (bytes : Li
   byte_put : (k : ℕ) → at ≤ k → k < at + length bytes → byte_of after node k ≡ slice_index bytes (k - at)
   byte_put k from to =
       let size : ℕ = m.holdings.size in
-      let some : 0 < size = size_some size c.size in
+      let some : 0 < size = size_positive size c.size in
       let i : ℕ = k / size in
       let has : Has i = has_own size at (length bytes) k some from to in
       ap (λ (l : List ℕ). slice_index l (k % size)) (leaf_put i has)
@@ -165,7 +166,7 @@ module _ (order : Order) (m n : BlockState) (node : Root) (at : ℕ) (bytes : Li
   byte_stays : (k : ℕ) → k < leaves_end m.holdings.size node.size → (k < at) ⊎ (at + length bytes ≤ k) → byte_of after node k ≡ byte_of before node k
   byte_stays k low out =
       let size : ℕ = m.holdings.size in
-      let some : 0 < size = size_some size c.size in
+      let some : 0 < size = size_positive size c.size in
       let i : ℕ = k / size in
       let q : i * size + k % size ≡ k = div-add-mod' k size in
       elim (decide size at (length bytes) i) [

@@ -5,12 +5,12 @@ use Rattle.std.proofs.lemmas.List.{get_or-take, get_or-drop, length-append, leng
 use Rattle.std.proofs.lemmas.Slice.{drop-append-drop}
 use Rattle.std.proofs.lemmas.Bool.{cases_lt}
 use Rattle.std.proofs.lemmas.Nat.{div-mul-add, mod-mul-add}
-use Rattle.qx_bytes.proofs.Puts.{byte_put_apart, byte_put_within}
+use Rattle.qx_bytes.proofs.Puts.{byte_put_apart, byte_put_within, part_put}
 use Rattle.qx_geom.specs.declared.root.Root.{Root}
 use Rattle.qx_nodes.specs.BlockMap.{BlockMap}
 use Rattle.qx_nodes.specs.Content.{byte_of, bytes_at_leaf, leaf_bytes}
 use Rattle.qx_nodes.specs.Leaves.{Hole, leaf_of}
-use Rattle.qx_file.proofs.PartBytes.{part_of_fill, part_put}
+use Rattle.qx_file.proofs.PartBytes.{part_of_fill}
 
 -- a byte of a range
 pub index_of_range : (xs : List ℕ) (a n j : ℕ) → j < n → slice_index (slice_range xs a (a + n)) j ≡ slice_index xs (a + j)

@@ -20,6 +20,23 @@ pub ascending_distinct : (xs : List ℕ) → IsAscending xs → Distinct xs
 ascending_distinct [] a = tt
 ascending_distinct (x ∷ xs) a = (λ c. let h : x < x = a.0 x c in absurd (omega (arith, h)), ascending_distinct xs a.1)
 
+-- ascending lists with the same members are one
+pub ascending_same : (xs ys : List ℕ) → IsAscending xs → IsAscending ys → ((x : ℕ) → Contains xs x → Contains ys x) → ((x : ℕ) → Contains ys x → Contains xs x) → xs ≡ ys
+ascending_same [] [] a b to from = refl
+ascending_same [] (y ∷ ys) a b to from = absurd (let c : Contains [] y = from y (Contains-head y ys) in omega (arith, c.1))
+ascending_same (x ∷ xs) [] a b to from = absurd (let c : Contains [] x = to x (Contains-head x xs) in omega (arith, c.1))
+ascending_same (x ∷ xs) (y ∷ ys) a b to from =
+    let low : y ≤ x = least y x ys b.0 (to x (Contains-head x xs)) in
+    let high : x ≤ y = least x y xs a.0 (from y (Contains-head y ys)) in
+    let same : x ≡ y = omega arith in
+    λ i. same i ∷ ascending_same xs ys a.1 b.1 (λ z c. later y z ys (to z (Contains-cons x z xs c)) (let h : x < z = a.0 z c in omega arith)) (λ z c. later x z xs (from z (Contains-cons y z ys c)) (let h : y < z = b.0 z c in omega arith)) i
+  where
+    least : (h z : ℕ) (zs : List ℕ) → ((w : ℕ) → Contains zs w → h < w) → Contains (h ∷ zs) z → h ≤ z
+    least h z zs above c = elim (Contains-cases h z zs c) [ inl is ↦ omega arith | inr there ↦ let lt : h < z = above z there in omega arith ]
+
+    later : (h z : ℕ) (zs : List ℕ) → Contains (h ∷ zs) z → h < z → Contains zs z
+    later h z zs c lt = elim (Contains-cases h z zs c) [ inl is ↦ absurd (omega arith) | inr there ↦ there ]
+
 -- a lesser or equal number that differs is less
 pub below : (x y : ℕ) → x ≤ y → (x ≡ y → ⊥) → x < y
 below x y le apart = elim (nat_le y x) as (λ b. nat_le y x ≡ b → x < y) [ true ↦ λ e. absurd (apart (omega (arith, le, leb-true y x e))) | false ↦ λ e. leb-false y x e ] refl

@@ -37,11 +37,11 @@ image_in f (x ∷ xs) j h = elim (in_cases (f x) j (map f xs) h) [
 ]
 
 -- a member of the image is the image of a member
-pub Contains-image : (f : ℕ → ℕ) (xs : List ℕ) (j : ℕ) → Contains (map f xs) j → (i : ℕ) × Contains xs i × (f i ≡ j)
-Contains-image f [] j c = absurd (omega (arith, c.1))
-Contains-image f (x ∷ xs) j c = elim (Contains-cases (f x) j (map f xs) c) [
+pub Contains-image : {X A : Type 0} (f : X → A) (xs : List X) (y : A) → Contains (map f xs) y → (x : X) × Contains xs x × (f x ≡ y)
+Contains-image f [] y c = absurd (omega (arith, c.1))
+Contains-image f (x ∷ xs) y c = elim (Contains-cases (f x) y (map f xs) c) [
   | inl is ↦ (x, Contains-head x xs, is)
-  | inr there ↦ let r : (i : ℕ) × Contains xs i × (f i ≡ j) = Contains-image f xs j there in (r.0, Contains-cons x r.0 xs r.1, r.2)
+  | inr there ↦ let r = Contains-image f xs y there in (r.0, Contains-cons x r.0 xs r.1, r.2)
 ]
 
 -- where a number of a list has this image, some number has

@@ -15,11 +15,11 @@ use Rattle.qx_geom.specs.Touch.{IsTouched, changed_leaves, fresh_at, is_fresh, i
 -- ---- positions by leaves
 
 -- the index a level higher
-above_next : (blocksize k i : ℕ) → index_above blocksize k i / per_block blocksize ≡ index_above blocksize (suc k) i
+pub above_next : (blocksize k i : ℕ) → index_above blocksize k i / per_block blocksize ≡ index_above blocksize (suc k) i
 above_next blocksize k i = div-div-eq-div-mul i (per_block blocksize ^ k) (per_block blocksize) ∙ ap (λ (n : ℕ). i / n) (sym (pow-suc (per_block blocksize) k))
 
 -- a leaf is its own index at level 0
-above_leaf : (blocksize i : ℕ) → index_above blocksize 0 i ≡ i
+pub above_leaf : (blocksize i : ℕ) → index_above blocksize 0 i ≡ i
 above_leaf blocksize i = ap (λ (n : ℕ). i / n) (pow-zero (per_block blocksize)) ∙ div-one i
 
 -- a position has a present leaf below it

@@ -1,8 +1,9 @@
 -- How many blocks the levels of a tree have.
 use Rattle.std.proofs.Common.{◌≡◌, ℕ, zero, suc, ◌+◌, ◌-◌, ◌*◌, ◌/◌, ◌%◌, ◌^◌, ◌<◌, ◌≤◌, min, true, ⊎_elim, arith, sym, ◌∙◌, ap, refl, add-one}
-use Rattle.std.proofs.Math.Nat.{div-eq_of_lt-le, div-lt_iff_lt-mul, le-div_iff_mul-le, div-one, mul-le-mul_left, mul-le-mul_right, le-mul_of_pos_right, pow-zero, pow-succ'}
+use Rattle.std.proofs.Math.Nat.{div-eq_of_lt-le, div-lt_iff_lt-mul, le-div_iff_mul-le, div-one, mul-le-mul_left, mul-le-mul_right, le-mul_of_pos_right, pow-zero, pow-succ', add-mul, div-mul-le_self, one-mul}
 use Rattle.std.proofs.lemmas.Grind.{div_ceil_times}
 use Rattle.std.proofs.lemmas.Bool.{cases_eq, cond-true, cond-false, lt-ltb, le-ltb}
+use Rattle.std.proofs.lemmas.Nat.{le-div}
 use Rattle.qx_geom.proofs.BlockSizes.{power_pos}
 use Rattle.qx_geom.specs.Layout.{is_block_size, level_count, below_level, levels_for, tree_blocks, pointer_blocks, pointer_place}
 use Rattle.qx_geom.specs.Pointer.{ceil_div, per_block}
@@ -22,6 +23,12 @@ pub ceil_div-below : (n p j : ℕ) → 0 < p → j < ceil_div n p → j * p < n
 ceil_div-below n p j some less =
     let whole : (j + 1) * p ≤ n + p - 1 = (le-div_iff_mul-le some).0 (omega arith) in
     omega arith
+
+-- and a place below the number stands in a part below the rounded quotient
+pub part_below : (k a b : ℕ) → 0 < b → k < a → k / b < ceil_div a b
+part_below k a b pos below =
+    let more : (k / b + 1) * b ≤ a + b - 1 = rw (add-mul (k / b) 1 b, one-mul b) (omega (arith, div-mul-le_self k b)) in
+    omega (arith, le-div (k / b + 1) (a + b - 1) b pos more)
 
 module _ (b n : ℕ) (sized : is_block_size b ≡ true) where
   -- the leaves are level 0

@@ -1,9 +1,10 @@
 -- Members of lists, of lists end to end, and of the parts below a bound.
 use Rattle.std.proofs.Common.{◌≡◌, ℕ, zero, suc, ◌+◌, ◌<◌, ◌≤◌, ◌⊎◌, inl, inr, List, [], ◌∷◌, ◌++◌, refl, ◌∙◌, ap, subst, arith}
-use Rattle.std.specs.Prelude.{Bool, true, false, ◌||◌, nat_eq, Contains, map}
-use Rattle.std.specs.List.{range_with_len}
-use Rattle.std.proofs.lemmas.Bool.{eqb-true, eq-eqb, cases_lt}
+use Rattle.std.specs.Prelude.{Bool, true, false, ◌||◌, nat_eq, Contains, map, ◌&&◌}
+use Rattle.std.specs.List.{range_with_len, list_all, list_any}
+use Rattle.std.proofs.lemmas.Bool.{eqb-true, eq-eqb, cases_lt, or_left, or_right}
 use Rattle.std.proofs.lemmas.List.Elements.{Contains-append_left, Contains-append_right, Contains-append_cases}
+use Rattle.std.proofs.lemmas.List.Folds.{list_any-append}
 use Rattle.qx_geom.specs.Lists.{each_below, is_in, parts_below}
 
 -- a member is the head or one of the rest
@@ -57,11 +58,7 @@ in_head x l = ap (λ b. b || is_in l x) (eq-eqb x x refl)
 
 -- what is in the rest is
 pub in_tail : (x k : ℕ) (l : List ℕ) → is_in l k ≡ true → is_in (x ∷ l) k ≡ true
-in_tail x k l h = ap (λ b. nat_eq x k || b) h ∙ or_true (nat_eq x k)
-  where
-    or_true : (a : Bool) → (a || true) ≡ true
-    or_true true = refl
-    or_true false = refl
+in_tail x k l h = or_right (nat_eq x k) (is_in l k) h
 
 -- what is in the list is the head or in the rest
 pub in_cases : (x k : ℕ) (l : List ℕ) → is_in (x ∷ l) k ≡ true → (x ≡ k) ⊎ (is_in l k ≡ true)
@@ -93,3 +90,35 @@ in_append_cases (x ∷ xs) ys k h =
       | inl is ↦ inl (subst (λ z. is_in (x ∷ xs) z ≡ true) is (in_head x xs))
       | inr r ↦ elim (in_append_cases xs ys k r) [ inl a ↦ inl (in_tail x k xs a) | inr b ↦ inr b ]
     ]
+
+-- so it is in two lists end to end where it is in one
+pub is_in-append : (xs ys : List ℕ) (b : ℕ) → is_in (xs ++ ys) b ≡ (is_in xs b || is_in ys b)
+is_in-append xs ys b = list_any-append (λ y. nat_eq y b) xs ys
+
+-- ---- tests of members
+
+-- a test that a member passes passes somewhere
+pub Contains-any : {A : Type 0} (test : A → Bool) (xs : List A) (x : A) → Contains xs x → test x ≡ true → list_any test xs ≡ true
+Contains-any test [] x c t = absurd (omega (arith, c.1))
+Contains-any test (y ∷ ys) x c t = elim (Contains-cases y x ys c) [
+  | inl is ↦ or_left (test y) (list_any test ys) (ap test is ∙ t)
+  | inr later ↦ or_right (test y) (list_any test ys) (Contains-any test ys x later t)
+]
+
+-- where a test passes in a list, it does at a member
+pub any-Contains : {A : Type 0} (test : A → Bool) (xs : List A) → list_any test xs ≡ true → (x : A) × Contains xs x × (test x ≡ true)
+any-Contains test [] h = absurd (cc)
+any-Contains {A = A} test (x ∷ xs) h = go (test x) refl h (any-Contains test xs)
+  where
+    go : (b : Bool) → test x ≡ b → (b || list_any test xs) ≡ true → (list_any test xs ≡ true → (y : A) × Contains xs y × (test y ≡ true)) → (y : A) × Contains (x ∷ xs) y × (test y ≡ true)
+    go true e h more = (x, Contains-head x xs, e)
+    go false e h more = let r : (y : A) × Contains xs y × (test y ≡ true) = more h in (r.0, Contains-cons x r.0 xs r.1, r.2)
+
+-- what each number of a range passes, all pass
+all_range : (p : ℕ → Bool) (a n : ℕ) → ((k : ℕ) → a ≤ k → k < a + n → p k ≡ true) → list_all p (map (λ j. j) (range_with_len a n)) ≡ true
+all_range p a zero each = refl
+all_range p a (suc n) each = λ i. each a (omega arith) (omega arith) i && all_range p (a + 1) n (λ k low high. each k (omega arith) (omega arith)) i
+
+-- so do all below a bound
+pub all_below : (p : ℕ → Bool) (n : ℕ) → ((k : ℕ) → k < n → p k ≡ true) → list_all p (each_below n (λ j. j)) ≡ true
+all_below p n each = all_range p 0 n (λ k low high. each k (omega arith))

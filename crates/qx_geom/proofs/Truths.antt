@@ -1,5 +1,5 @@
 -- Truth values of `and`, `or` and `not`.
-use Rattle.std.proofs.Common.{◌≡◌, refl}
+use Rattle.std.proofs.Common.{◌≡◌, refl, sym}
 use Rattle.std.specs.Prelude.{Bool, true, false, ◌||◌, ◌&&◌, not}
 
 -- both hold, so the first does
@@ -35,3 +35,9 @@ true_or_false b t f = cc
 pub not_so : (b : Bool) → (b ≡ true → ⊥) → b ≡ false
 not_so true no_way = absurd (no_way refl)
 not_so false no_way = refl
+
+-- truths that follow from each other are the same
+pub same_truth : (a b : Bool) → (a ≡ true → b ≡ true) → (b ≡ true → a ≡ true) → a ≡ b
+same_truth true b to from = sym (to refl)
+same_truth false true to from = from refl
+same_truth false false to from = refl

@@ -1,9 +1,8 @@
 -- A leaf that is written record by record.
-use Rattle.std.proofs.Common.{◌≡◌, ℕ, zero, suc, ◌+◌, ◌-◌, ◌*◌, ◌<◌, ◌≤◌, List, [], ◌∷◌, ◌++◌, length, take, drop, refl, sym, ◌∙◌, ap, arith, append_assoc, drop-drop, take-append-drop, length-drop, below_more}
+use Rattle.std.proofs.Common.{◌≡◌, ℕ, zero, suc, ◌+◌, ◌-◌, ◌*◌, ◌<◌, ◌≤◌, List, [], ◌∷◌, ◌++◌, length, take, drop, refl, sym, ◌∙◌, ap, arith, drop-drop, take-append-drop, length-drop, below_more}
 use Rattle.std.specs.Prelude.{slice_range}
 use Rattle.std.specs.List.{flat_map, range_with_len, replace_range}
-use Rattle.qx_bytes.specs.Ranges.{put_at}
-use Rattle.qx_bytes.proofs.Puts.{range_put_same, range_put_before}
+use Rattle.qx_bytes.proofs.Puts.{range_put_same, range_put_before, part_put}
 use Rattle.qx_records.specs.InodeRecord.{inode_in}
 use Rattle.qx_itable.specs.TableState.{TableState, inode_of, if_live, record_bytes}
 
@@ -11,13 +10,6 @@ use Rattle.qx_itable.specs.TableState.{TableState, inode_of, if_live, record_byt
 pub record IsWritten (t : TableState) (first : ℕ) (bytes : List ℕ) (k : ℕ) : Type 0 where
   pub record_is : slice_range bytes (k * 128) (k * 128 + 128) ≡ record_bytes t.order (inode_of t (first + k + 1))
   pub read_back : if_live (inode_in t.order (slice_range bytes (k * 128) (k * 128 + 128))) ≡ inode_of t (first + k + 1)
-
--- a part of as many bytes, written over others
-pub part-written : (bytes part : List ℕ) (at wide : ℕ) → length part ≡ wide → take at bytes ++ (part ++ drop (at + wide - at) (drop at bytes)) ≡ put_at bytes at part
-part-written bytes part at wide long =
-    let behind : at + (at + wide - at) ≡ at + length part = omega arith in
-    sym (append_assoc (take at bytes) part (drop (at + wide - at) (drop at bytes)))
-    ∙ ap (λ rest. (take at bytes ++ part) ++ rest) (drop-drop (at + wide - at) at bytes ∙ ap (λ n. drop n bytes) behind)
 
 -- bytes whose records are these are the records one after another
 pub joined-records : (f : ℕ → List ℕ) (a n : ℕ) (bytes : List ℕ) → length bytes ≡ n * 128
@@ -44,7 +36,7 @@ module _ (t : TableState) (first place : ℕ) (bytes part : List ℕ) (whole : l
 
   -- it is a put
   put_is : new ≡ replace_range bytes (place * 128) (place * 128 + 128) part
-  put_is = part-written bytes part (place * 128) 128 whole ∙ ap (λ (n : ℕ). replace_range bytes (place * 128) (place * 128 + n) part) whole
+  put_is = part_put bytes part (place * 128) 128 whole ∙ ap (λ (n : ℕ). replace_range bytes (place * 128) (place * 128 + n) part) whole
 
   -- the records before stay
   before : (k : ℕ) → k < place → slice_range new (k * 128) (k * 128 + 128) ≡ slice_range bytes (k * 128) (k * 128 + 128)

@@ -2,7 +2,7 @@
 use Rattle.std.proofs.Common.{◌≡◌, ◌≢◌, ℕ, ◌+◌, ◌-◌, ◌*◌, ◌/◌, ◌%◌, ◌^◌, ◌<◌, ◌≤◌, ◌⊎◌, inl, inr, List, Option, None, Some, max, refl, sym, ◌∙◌, ap, subst, arith}
 use Rattle.std.specs.Prelude.{Bool, true, false, not, ◌&&◌, ◌||◌, ◌==◌, nat_le, nat_lt, if◌then◌else◌, IsTrue, IfSome}
 use Rattle.std.proofs.Math.Nat.{div-mul-le_self, mul-le-mul_right, mul-mod_left, pow-le-pow_left}
-use Rattle.std.proofs.lemmas.Bool.{cases_lt, eq-eqb, eqb-false, eqb-true, le-leb, leb-true, lt-ltb, ltb-true}
+use Rattle.std.proofs.lemmas.Bool.{cases_lt, eq-eqb, eqb-false, eqb-true, le-leb, leb-true, lt-ltb, ltb-true, or_left}
 use Rattle.std.proofs.lemmas.Nat.{le-div}
 use Rattle.qx_geom.specs.declared.root.Root.{Root}
 use Rattle.qx_geom.specs.Layout.{is_block_size}
@@ -11,10 +11,10 @@ use Rattle.qx_geom.specs.Pointer.{ceil_div, per_block, reach}
 use Rattle.qx_geom.specs.Positions.{is_named, present_after}
 use Rattle.qx_geom.proofs.BlockSizes.{block_size-bounds}
 use Rattle.qx_geom.proofs.PresentLeaves.{present_after_members}
-use Rattle.qx_geom.proofs.Truths.{not_so, true_or_false}
+use Rattle.qx_geom.proofs.Truths.{not_so, true_or_false, same_truth}
 use Rattle.qx_ptree.specs.declared.change.Change.{Change}
 use Rattle.qx_ptree.specs.Fates.{IsChange, is_written, leaves_after, written_by}
-use Rattle.qx_ptree.proofs.LeafParts.{in_written-is}
+use Rattle.qx_ptree.proofs.LeafParts.{in_written-is, named-is}
 use Rattle.qx_long.specs.NamePlans.{name_change, unless}
 
 -- ---- the written leaf
@@ -97,12 +97,6 @@ size_whole long (Some n) drop b whole =
 
 -- ---- the present leaves
 
--- truths that follow from each other are the same
-same_truth : (a b : Bool) → (a ≡ true → b ≡ true) → (b ≡ true → a ≡ true) → a ≡ b
-same_truth true b f g = sym (f refl)
-same_truth false true f g = g refl
-same_truth false false f g = refl
-
 -- the written leaf is that of the added name
 written_named : (long : Root) (add drop : Option ℕ) (b i : ℕ) → is_written (name_change long add drop b) i ≡ is_named add i
 written_named long None drop b i = not_so (is_written (name_change long None drop b) i) (none_written long drop b i)
@@ -128,11 +122,6 @@ gone_named long (Some n) (Some x) b i = by_tests (x == n) (i == x) (i == n) refl
     by_tests false false w e f h = f
     by_tests false true true e f h = absurd (eqb-false x n e (sym (eqb-true i x f) ∙ eqb-true i n h))
 
--- a named leaf
-named_is : (g : Option ℕ) (i : ℕ) → is_named g i ≡ true → g ≡ Some i
-named_is None i t = absurd (cc)
-named_is (Some y) i t = ap (λ k. Some k) (sym (eqb-true i y t))
-
 -- is the one of that name
 is_its_name : (g : Option ℕ) (i : ℕ) → g ≡ Some i → is_named g i ≡ true
 is_its_name g i is = ap (λ o. is_named o i) is ∙ eq-eqb i i refl
@@ -149,8 +138,8 @@ present_planned long present add drop b i sized within =
     let members = present_after_members present (leaves_after b c) (written_by c) c.gone i in
     same_truth (is_in (present_after present (leaves_after b c) (written_by c) c.gone) i) (is_named add i || (is_in present i && not (is_named drop i)))
     (λ t. elim (members.0 t) [
-      | inl written ↦ added (is_named add i) (is_in present i && not (is_named drop i)) (sym (written_named long add drop b i) ∙ sym (in_written-is c i) ∙ written)
-      | inr kept ↦ stayed (is_named add i) (is_in present i) (is_named drop i) kept.0 (sym (gone_named long add drop b i) ∙ not_so (is_named c.gone i) (λ g. kept.2 (named_is c.gone i g)))
+      | inl written ↦ or_left (is_named add i) (is_in present i && not (is_named drop i)) (sym (written_named long add drop b i) ∙ sym (in_written-is c i) ∙ written)
+      | inr kept ↦ stayed (is_named add i) (is_in present i) (is_named drop i) kept.0 (sym (gone_named long add drop b i) ∙ not_so (is_named c.gone i) (λ g. kept.2 (named-is c.gone i g)))
     ])
     (λ t. elim (cases (is_named add i) (is_in present i) (is_named drop i) t) [
       | inl new ↦ members.1 (inl (in_written-is c i ∙ written_named long add drop b i ∙ new))
@@ -161,10 +150,6 @@ present_planned long present add drop b i sized within =
       ))
     ])
   where
-    added : (a r : Bool) → a ≡ true → (a || r) ≡ true
-    added true r e = refl
-    added false r e = absurd (cc)
-
     stayed : (a p d : Bool) → p ≡ true → (d && not a) ≡ false → (a || (p && not d)) ≡ true
     stayed true p d e f = refl
     stayed false true false e f = refl

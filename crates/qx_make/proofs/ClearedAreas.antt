@@ -3,11 +3,11 @@ use Rattle.std.proofs.Common.{◌≡◌, ℕ, ◌+◌, ◌-◌, ◌*◌, ◌/◌
 use Rattle.std.specs.Prelude.{slice_range}
 use Rattle.std.specs.Result.{result_ok}
 use Rattle.std.proofs.lemmas.Bool.{cases_eq, cases_lt}
+use Rattle.std.proofs.lemmas.Option.{same_Some}
 use Rattle.qx_super.specs.declared.choice.Pick.TheVariants as picks
 use Rattle.qx_super.specs.Superblock.{Superblock, second_place_of, superblock_of}
 use Rattle.qx_super.specs.Active.{active_area, second_search}
 use Rattle.qx_super.proofs.SuperblockTests.{valid-elsewhere}
-use Rattle.qx_view.proofs.ImageTrees.{some_same}
 use Rattle.qx_make.specs.Cut.{HasNoOtherSuperblock, last_place}
 use Rattle.qx_make.specs.Stages.{after_stage, zero_stage}
 use Rattle.qx_make.proofs.BytesAt.{HasSame, HasSame-then, HasZeros, HasZeros-same, HasZeros-within, range_same}
@@ -55,7 +55,7 @@ module _ (old : List ℕ) where
           | inl zeros ↦ inl zeros
           | inr same ↦ elim (zeroed_at old (second_place_of s) at active.place.parts n active.place.aligned here) [
             | inl zeros ↦ inl (HasZeros-same (after_stage (zero_stage inner 0x2000)) inner at (at + 512) same.0 zeros)
-            | inr kept ↦ inr (HasSame-then (after_stage (zero_stage inner 0x2000)) inner old at (at + 512) same.0 kept.0, λ found. absurd (kept.1 (some_same (second_place_of s) at (sym active.search ∙ found))))
+            | inr kept ↦ inr (HasSame-then (after_stage (zero_stage inner 0x2000)) inner old at (at + 512) same.0 kept.0, λ found. absurd (kept.1 (same_Some (second_place_of s) at (sym active.search ∙ found))))
           ]
         ];
       }
@@ -72,7 +72,7 @@ module _ (old : List ℕ) where
           | inl zeros ↦ inl zeros
           | inr same ↦ elim (zeroed_at old 0x2000 at 16 n refl here) [
             | inl zeros ↦ inl (HasZeros-same (after_stage (zero_stage inner place)) inner at (at + 512) same.0 zeros)
-            | inr kept ↦ inr (HasSame-then (after_stage (zero_stage inner place)) inner old at (at + 512) same.0 kept.0, λ found. absurd (same.1 (some_same place at (sym active.search ∙ found))))
+            | inr kept ↦ inr (HasSame-then (after_stage (zero_stage inner place)) inner old at (at + 512) same.0 kept.0, λ found. absurd (same.1 (same_Some place at (sym active.search ∙ found))))
           ]
         ];
       }
@@ -95,7 +95,7 @@ module _ (old : List ℕ) where
   search_cases None place = inr (λ e. cc e)
   search_cases (Some p) place = elim (cases_eq p place) [
     | inl same ↦ inl (ap (λ (x : ℕ). Some x) same)
-    | inr other ↦ inr (λ e. other (some_same p place e))
+    | inr other ↦ inr (λ e. other (same_Some p place e))
   ]
 
   -- where none was active, old bytes of the searched place don't count as the second, in whatever length
@@ -107,7 +107,7 @@ module _ (old : List ℕ) where
       let valid = super_at-valid img place s both.0 in
       let room : place + 512 ≤ length old = elim (cases_lt (length old) 4096) [
         | inl short ↦ absurd (let unsearched = second_search-none old nowhere.0 short in cc)
-        | inr long ↦ let at : place ≡ last_place (length old) = some_same place (last_place (length old)) (sym found ∙ second_search-last old nowhere.0 long) in omega arith
+        | inr long ↦ let at : place ≡ last_place (length old) = same_Some place (last_place (length old)) (sym found ∙ second_search-last old nowhere.0 long) in omega arith
       ] in
       let says : second_place_of s ≡ place = both.1 in
       let bytes : slice_range old place (place + 512) ≡ slice_range img place (place + 512) = sym (range_same img old place (place + 512) valid.0 room same) in

@@ -1,8 +1,8 @@
 -- The inodes of a new volume: the root directory's, and zeros.
 use Rattle.std.proofs.Common.{◌≡◌, ℕ, inl, inr, zero, suc, ◌+◌, ◌-◌, ◌*◌, ◌/◌, ◌%◌, ◌≤◌, ◌<◌, ◌^◌, List, [], ◌∷◌, ◌++◌, true, false, refl, ap, sym, ◌∙◌, arith, lit<, length, take, drop}
 use Rattle.std.specs.Prelude.{All, replicate, slice_range, ◌==◌}
-use Rattle.std.proofs.Math.Nat.{add-mul, div-mul-le_self, one-mul, zero-div, zero-mod, zero-mul}
-use Rattle.std.proofs.lemmas.Nat.{div-add-mod', le-div}
+use Rattle.std.proofs.Math.Nat.{zero-div, zero-mod, zero-mul}
+use Rattle.std.proofs.lemmas.Nat.{div-add-mod'}
 use Rattle.std.proofs.lemmas.Bool.{and_parts, and_from, cases_eq, cond-true, cond-false, eq-eqb, ne_eqb}
 use Rattle.std.proofs.lemmas.List.Elements.{All-replicate}
 use Rattle.std.proofs.lemmas.List.{take_at, drop_at, drop-drop, drop-replicate}
@@ -11,9 +11,10 @@ use Rattle.qx_geom.specs.declared.area.Which.{Which}
 use Rattle.qx_geom.specs.declared.geometry.Geometry.{Geometry}
 use Rattle.qx_geom.specs.declared.root.Root.{Root}
 use Rattle.qx_geom.specs.Layout.{system_root_of}
-use Rattle.qx_geom.specs.Pointer.{absent, ceil_div}
+use Rattle.qx_geom.specs.Pointer.{absent}
 use Rattle.qx_geom.proofs.BlockSizes.{BlockSizeBounds, block_size-bounds}
 use Rattle.qx_geom.proofs.VolumeNumbers.{IsGeometry-keeps}
+use Rattle.qx_geom.proofs.LevelCounts.{part_below}
 use Rattle.qx_nodes.specs.BlockMap.{BlockMap}
 use Rattle.qx_nodes.specs.Content.{leaf_bytes}
 use Rattle.qx_records.specs.InodeRecord.{inode_in}
@@ -21,6 +22,7 @@ use Rattle.qx_records.specs.WrittenInode.{FitsInode, inode_bytes as bytes_of_ino
 use Rattle.qx_records.proofs.WrittenInodes.{inode_in-inode_bytes, length_inode_bytes}
 use Rattle.qx_view.specs.Images.{inode_bytes, inode_of}
 use Rattle.qx_view.specs.Sound.{are_zero}
+use Rattle.qx_view.proofs.HoleRecords.{are_zero-replicate}
 use Rattle.qx_make.specs.Blocks.{inode_leaf_bytes, top_block, top_inode}
 use Rattle.qx_make.proofs.NewBlocks.{NewBlocks, blocks, inodes_from, leaves_filled}
 use Rattle.qx_make.proofs.NewLeaves.{inode_leaf_is}
@@ -50,11 +52,6 @@ top_inode-fits size block moment s b t = record {
 
 -- ---- zeros
 
--- a row of zeros is one
-pub are_zero-replicate : (n : ℕ) → are_zero (replicate n 0) ≡ true
-are_zero-replicate zero = refl
-are_zero-replicate (suc n) = are_zero-replicate n
-
 -- the first of some zeros are zeros
 are_zero-take : (n : ℕ) (xs : List ℕ) → are_zero xs ≡ true → are_zero (take n xs) ≡ true
 are_zero-take zero xs e = refl
@@ -83,12 +80,6 @@ zero_behind g order moment i o behind =
           ∙ ap are_zero (drop-replicate o g.blocksize 0)
           ∙ are_zero-replicate (g.blocksize - o)
     ]
-
--- a part that begins below a size is one of those that the size fills
-part_below : (k a b : ℕ) → 0 < b → k < a → k / b < ceil_div a b
-part_below k a b pos below =
-    let more : (k / b + 1) * b ≤ a + b - 1 = rw (add-mul (k / b) 1 b, one-mul b) (omega (arith, div-mul-le_self k b)) in
-    omega (arith, le-div (k / b + 1) (a + b - 1) b pos more)
 
 module _ (v : NewBlocks) (which : Which) where
   -- the volume's numbers

@@ -15,6 +15,7 @@ use Rattle.qx_geom.proofs.VolumeNumbers.{IsGeometry-keeps}
 use Rattle.qx_nodes.specs.BlockMap.{BlockMap, word}
 use Rattle.qx_nodes.specs.Leaves.{leaves_below}
 use Rattle.qx_nodes.specs.Visits.{Visit, visits_of, visits_under}
+use Rattle.qx_nodes.proofs.DistinctPositions.{if_filled}
 use Rattle.qx_make.proofs.NewBlocks.{NewBlocks, blocks}
 use Rattle.qx_make.proofs.NewWords.{word_is}
 
@@ -49,11 +50,6 @@ unless_either : {A : Type 0} (a b : Bool) (x : A) (xs : List A) → Contains (if
 unless_either true b x xs c = absurd (omega (arith, c.1))
 unless_either false true x xs c = absurd (omega (arith, c.1))
 unless_either false false x xs c = (refl, c)
-
--- a member of what is there if a test holds
-if_holds : {A : Type 0} (b : Bool) (x : A) (xs : List A) → Contains (if b then xs else []) x → Contains xs x
-if_holds true x xs c = c
-if_holds false x xs c = absurd (omega (arith, c.1))
 
 module _ (n : NewBlocks) (which : Which) (bitmap : Bool) where
   -- the volume's numbers
@@ -99,7 +95,7 @@ module _ (n : NewBlocks) (which : Which) (bitmap : Bool) where
       elim (Contains-cases top u rest there.1) [
         | inl here ↦ subst (λ x. StandsInTree n which bitmap x) here at
         | inr below ↦
-            let from : (w : ℕ) × (w < per_block m.size) × Contains (part w) u = parts-Contains (per_block m.size) part u (if_holds (nat_lt p m.count) u (parts_below (per_block m.size) part) below) in
+            let from : (w : ℕ) × (w < per_block m.size) × Contains (part w) u = parts-Contains (per_block m.size) part u (if_filled (nat_lt p m.count) u (parts_below (per_block m.size) part) below) in
             let back : suc l - 1 ≡ l = omega arith in
             let leads : word m p from.0 ≡ system_pointer g.blocksize base leaves l (index * per_block m.size + from.0) = word_is n which bitmap (suc l) index p from.0 (omega arith) at from.1 ∙ ap (λ k. system_pointer g.blocksize base leaves k (index * per_block m.size + from.0)) back in
             met_under last l (index * per_block m.size + from.0) (word m p from.0) (omega arith) leads u from.2

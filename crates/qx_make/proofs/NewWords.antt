@@ -1,8 +1,8 @@
 -- The words of a new volume's pointer blocks lead to the blocks of the level below.
-use Rattle.std.proofs.Common.{◌≡◌, ℕ, zero, suc, ◌+◌, ◌-◌, ◌*◌, ◌≤◌, ◌<◌, ◌^◌, List, Bool, true, refl, ap, ◌∙◌, arith}
-use Rattle.std.specs.Prelude.{◌==◌, nat_lt, map}
-use Rattle.std.specs.List.{list_all, range_with_len}
-use Rattle.std.proofs.lemmas.Bool.{and_from, cond-true, cond_both, eq-eqb, lt-ltb, ltb-true}
+use Rattle.std.proofs.Common.{◌≡◌, ℕ, suc, ◌+◌, ◌-◌, ◌*◌, ◌≤◌, ◌<◌, ◌^◌, List, Bool, true, refl, ap, ◌∙◌, arith}
+use Rattle.std.specs.Prelude.{◌==◌, nat_lt}
+use Rattle.std.specs.List.{list_all}
+use Rattle.std.proofs.lemmas.Bool.{cond-true, cond_both, eq-eqb, lt-ltb, ltb-true}
 use Rattle.qx_fields.specs.Number.{field}
 use Rattle.qx_geom.specs.declared.area.Which.{Which}
 use Rattle.qx_geom.specs.declared.geometry.Geometry.{Geometry}
@@ -12,20 +12,12 @@ use Rattle.qx_geom.specs.Pointer.{absent, per_block}
 use Rattle.qx_geom.proofs.LevelCounts.{level-within}
 use Rattle.qx_geom.proofs.SystemBlocks.{IsPointerBlock-above, system_word_of-is}
 use Rattle.qx_geom.proofs.VolumeNumbers.{IsGeometry-keeps, tree-below}
+use Rattle.qx_geom.proofs.Members.{all_below}
 use Rattle.qx_nodes.specs.BlockMap.{word}
 use Rattle.qx_view.specs.Sound.{has_system_words, is_system_tree}
 use Rattle.qx_make.specs.Blocks.{pointer_block_bytes}
 use Rattle.qx_make.proofs.NewBlocks.{NewBlocks, blocks, pointer_bytes}
 use Rattle.qx_make.proofs.NumbersInRows.{field_digits}
-
--- what each number of a range passes, all pass
-all_range : (p : ℕ → Bool) (a n : ℕ) → ((k : ℕ) → a ≤ k → k < a + n → p k ≡ true) → list_all p (map (λ j. j) (range_with_len a n)) ≡ true
-all_range p a zero each = refl
-all_range p a (suc n) each = and_from (p a) (list_all p (map (λ j. j) (range_with_len (a + 1) n))) (each a (omega arith) (omega arith)) (all_range p (a + 1) n (λ k low high. each k (omega arith) (omega arith)))
-
--- what each number below n passes, all pass
-pub all_below : (p : ℕ → Bool) (n : ℕ) → ((k : ℕ) → k < n → p k ≡ true) → list_all p (each_below n (λ j. j)) ≡ true
-all_below p n each = all_range p 0 n (λ k low high. each k (omega arith))
 
 module _ (v : NewBlocks) (which : Which) (bitmap : Bool) where
   -- the volume's numbers

@@ -2,13 +2,13 @@
 use Rattle.std.proofs.Common.{◌≡◌, ℕ, ◌+◌, ◌-◌, ◌≤◌, ◌⊎◌, inl, inr, List, ◌∷◌, length, min, Option, Some, None, refl, ap, sym, ◌∙◌, subst, arith}
 use Rattle.std.specs.Prelude.{Contains, option_to_list}
 use Rattle.std.proofs.lemmas.Bool.{cases_eq}
+use Rattle.std.proofs.lemmas.Option.{same_Some}
 use Rattle.qx_geom.specs.declared.area.Which.TheVariants.{First, Second}
 use Rattle.qx_model.specs.Tree.{Tree}
 use Rattle.qx_super.specs.declared.choice.Pick.TheVariants as picks
 use Rattle.qx_super.specs.Superblock.{Superblock, second_place_of}
 use Rattle.qx_super.specs.Active.{active_area, second_search, only_at, second_super, searched_place}
 use Rattle.qx_super.proofs.ActiveAreas.{active-first_alone, active-second_alone}
-use Rattle.qx_view.proofs.ImageTrees.{some_same}
 use Rattle.qx_make.specs.Cut.{HasNoOtherSuperblock, IsLeftByMaker, IsTorn, last_place, nothing, places_of}
 use Rattle.qx_make.specs.Stages.{after_stage, zero_stage}
 use Rattle.qx_make.proofs.BytesAt.{HasSame, HasSame-then, HasZeros-within}
@@ -102,7 +102,7 @@ module _ (old : List ℕ) (size : ℕ) (t : Tree) (alone : HasNoOtherSuperblock 
           | inr none ↦ left_nothing img long none (λ enough. last_none inner 0x2000 img torn none (λ not_first.
               elim (zeroed_at old second last active.place.parts (last_parts (length old)) active.place.aligned (last_place-aligned (length old))) [
                 | inl zeros ↦ super_at-zeros inner last zeros
-                | inr kept ↦ nothing_elsewhere old alone inner last kept.0 not_first (λ found. kept.1 (some_same second last (sym active.search ∙ found)))
+                | inr kept ↦ nothing_elsewhere old alone inner last kept.0 not_first (λ found. kept.1 (same_Some second last (sym active.search ∙ found)))
               ]))
         ]
 
@@ -136,7 +136,7 @@ module _ (old : List ℕ) (size : ℕ) (t : Tree) (alone : HasNoOtherSuperblock 
           | inr none ↦ elim (cases_eq last own) [
             | inl here ↦ second_stays img torn.size same none (there ∙ active.second) here
             | inr other ↦ left_nothing img torn.size none (λ enough. last_none old 0x2000 img torn none (λ not_first.
-                nothing_elsewhere old alone old last (record { each = λ k low high. refl }) not_first (λ found. other (some_same last own (sym found ∙ active.search)))))
+                nothing_elsewhere old alone old last (record { each = λ k low high. refl }) not_first (λ found. other (same_Some last own (sym found ∙ active.search)))))
           ]
         ]
 
@@ -158,7 +158,7 @@ module _ (old : List ℕ) (size : ℕ) (t : Tree) (alone : HasNoOtherSuperblock 
           | inr other ↦ left_nothing img long first (λ enough. last_none inner own img torn first (λ not_first.
               elim (zeroed_at old 0x2000 last 16 (last_parts (length old)) refl (last_place-aligned (length old))) [
                 | inl zeros ↦ super_at-zeros inner last zeros
-                | inr kept ↦ nothing_elsewhere old alone inner last kept.0 not_first (λ found. other (some_same last own (sym found ∙ active.search)))
+                | inr kept ↦ nothing_elsewhere old alone inner last kept.0 not_first (λ found. other (same_Some last own (sym found ∙ active.search)))
               ]))
         ]
 

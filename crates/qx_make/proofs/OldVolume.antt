@@ -5,6 +5,7 @@ use Rattle.std.proofs.lemmas.Bool.{or_cases}
 use Rattle.std.proofs.lemmas.List.{length-replicate}
 use Rattle.std.proofs.lemmas.Nat.{mul-le}
 use Rattle.std.proofs.Math.Nat.{mul_assoc}
+use Rattle.std.proofs.lemmas.Option.{same_Some}
 use Rattle.qx_geom.specs.declared.area.Which.{Which}
 use Rattle.qx_geom.specs.declared.area.Which.TheVariants.{First, Second}
 use Rattle.qx_geom.specs.Layout.{is_block_size}
@@ -17,7 +18,7 @@ use Rattle.qx_super.proofs.ActiveAreas.{IsSome-active_super, active_super-first,
 use Rattle.qx_super.proofs.SuperblockTests.{valid-blocks, valid-blocksize, valid-room}
 use Rattle.qx_view.specs.Images.{block_bytes, image_blocks, main_roots}
 use Rattle.qx_view.specs.Reading.{IsHeld, IsTree, IsTreeOf}
-use Rattle.qx_view.proofs.ImageTrees.{image_tree_local, some_same}
+use Rattle.qx_view.proofs.ImageTrees.{image_tree_local}
 use Rattle.qx_make.specs.Cut.{HasNoOtherSuperblock, IsLeftByMaker, old_volume}
 use Rattle.qx_make.proofs.BytesAt.{HasSame, byte_of_more, range_same}
 use Rattle.qx_make.proofs.SuperblocksAt.{second_at-is, second_search-named, second_super-at, second_super-unsearched, super_at, super_at-valid, super_at-wrong}
@@ -103,7 +104,7 @@ tree_kept : (img other : List ℕ) (s : Superblock) (t : Tree) → active_super 
 tree_kept img other s t supers is room also same (z, z_is, tree) = image_tree_local img other t supers held (z, z_is, tree)
   where
     tree_of : IsTreeOf (image_blocks img s) (main_roots s) t
-    tree_of = subst (λ (x : Superblock). IsTreeOf (image_blocks img x) (main_roots x) t) (some_same z s (sym z_is ∙ is)) tree
+    tree_of = subst (λ (x : Superblock). IsTreeOf (image_blocks img x) (main_roots x) t) (same_Some z s (sym z_is ∙ is)) tree
 
     same_block : (b : ℕ) → IsHeld (image_blocks img s) (main_roots s) t b → block_bytes img s.blocksize b ≡ block_bytes other s.blocksize b
     same_block b (o, v, stands, at) =
@@ -113,7 +114,7 @@ tree_kept img other s t supers is room also same (z, z_is, tree) = image_tree_lo
         range_same img other from (from + s.blocksize) (omega arith) (omega arith) (record { each = λ k low high. same.each k (omega arith) (omega arith) })
 
     held : (x : Superblock) → active_super img ≡ Some x → (b : ℕ) → IsHeld (image_blocks img x) (main_roots x) t b → block_bytes img x.blocksize b ≡ block_bytes other x.blocksize b
-    held x x_is = subst (λ (y : Superblock). (b : ℕ) → IsHeld (image_blocks img y) (main_roots y) t b → block_bytes img y.blocksize b ≡ block_bytes other y.blocksize b) (some_same s x (sym is ∙ x_is)) same_block
+    held x x_is = subst (λ (y : Superblock). (b : ℕ) → IsHeld (image_blocks img y) (main_roots y) t b → block_bytes img y.blocksize b ≡ block_bytes other y.blocksize b) (same_Some s x (sym is ∙ x_is)) same_block
 
 module _ (old : List ℕ) where
   -- with the old superblock, and all old blocks, an image has the old volume

@@ -10,6 +10,7 @@ use Rattle.qx_super.specs.declared.superblock.SuperFault.{SuperFault}
 use Rattle.qx_super.specs.Active.{active_area, active_super, area_at, first_super, is_same_volume, only_at, pick_of, second_search, second_super, searched_place, super_of_pick, valid_area}
 use Rattle.qx_super.proofs.ActiveAreas.{active-none, superblock_of-zeros}
 use Rattle.qx_super.proofs.SuperblockTests.{superblock_of-wrong}
+use Rattle.qx_super.proofs.ValidSuperblocks.{ok_of}
 use Rattle.qx_make.specs.Cut.{last_place}
 use Rattle.qx_make.proofs.BytesAt.{HasSame, HasZeros, range_same, range_zeros}
 
@@ -70,11 +71,6 @@ super_at-same img other place long same = elim (cases_lt (length img) (place + 5
       super_at-bytes img place (slice_range other place (place + 512)) (length other) room (range_same img other place (place + 512) room (omega arith) same) long
       ∙ sym (super_at-there other place (omega arith))
 ]
-
--- of a result that has a value it is the value
-ok_of : (r : Result Superblock SuperFault) (s : Superblock) → result_ok r ≡ Some s → r ≡ Ok s
-ok_of (Ok x) s e = cc
-ok_of (Err f) s e = absurd (cc)
 
 -- where there is one, the image has its bytes, and they are valid
 pub super_at-valid : (img : List ℕ) (place : ℕ) (s : Superblock) → super_at img place ≡ Some s → (place + 512 ≤ length img) × (superblock_of (slice_range img place (place + 512)) (length img) ≡ Ok s)

@@ -20,7 +20,7 @@ pub record LiesUnder (P l top : ℕ) (v : Visit) : Type 0 where
   pub index : v.index / P ^ up ≡ top
 
 -- one level further up
-above_one : (i P up j : ℕ) → i / P ^ up ≡ j → i / P ^ suc up ≡ j / P
+pub above_one : (i P up j : ℕ) → i / P ^ up ≡ j → i / P ^ suc up ≡ j / P
 above_one i P up j e = ap (λ q. i / q) (pow-suc P up) ∙ sym (div-div-eq-div-mul i (P ^ up) P) ∙ ap (λ q. q / P) e
 
 -- a member of what is there unless a test holds
@@ -29,7 +29,7 @@ if_empty true x xs c = absurd (omega (arith, c.1))
 if_empty false x xs c = c
 
 -- a member of what is there if a test holds
-if_filled : {A : Type 0} (b : Bool) (x : A) (xs : List A) → Contains (if b then xs else []) x → Contains xs x
+pub if_filled : {A : Type 0} (b : Bool) (x : A) (xs : List A) → Contains (if b then xs else []) x → Contains xs x
 if_filled true x xs c = c
 if_filled false x xs c = absurd (omega (arith, c.1))
 

@@ -60,7 +60,7 @@ leaf_met m last (suc l) p i pos below =
     (leaf_met m last l (word m p (i / P ^ l % P)) i pos below))
 
 -- a leaf by a pointer, whatever the tests say
-if_leaf : (a z c : Bool) (v : Visit) (xs : List Visit) (x y : Leaf) (Q : Visit → Type 0) → z ≡ false
+pub if_leaf : (a z c : Bool) (v : Visit) (xs : List Visit) (x y : Leaf) (Q : Visit → Type 0) → z ≡ false
     → ((w : Visit) → Contains (if a || z then [] else v ∷ (if c then xs else [])) w → Q w)
     → (((w : Visit) → Contains (v ∷ xs) w → Q w) → x ≡ y)
     → (if a then Hole else if c then x else Damage) ≡ (if a then Hole else if c then y else Damage)

@@ -1,5 +1,5 @@
 -- The leaves that a node meets are those that the paths give, in ascending order.
-use Rattle.std.proofs.Common.{◌≡◌, ℕ, zero, suc, ◌+◌, ◌*◌, ◌/◌, ◌%◌, ◌^◌, ◌<◌, ◌≤◌, inl, inr, List, [], ◌∷◌, ◌++◌, refl, sym, ◌∙◌, ap, subst, arith}
+use Rattle.std.proofs.Common.{◌≡◌, ℕ, zero, suc, ◌+◌, ◌*◌, ◌/◌, ◌%◌, ◌^◌, ◌<◌, ◌≤◌, inl, inr, List, [], ◌∷◌, ◌++◌, refl, sym, ◌∙◌, ap, subst, arith, ◌≢◌}
 use Rattle.std.specs.Prelude.{Bool, true, false, ◌||◌, nat_le, nat_lt, ◌==◌, if◌then◌else◌, Contains, map, filter, slice_index_or}
 use Rattle.std.proofs.lemmas.Bool.{leb-false, eqb-true, eq-eqb, cases_lt}
 use Rattle.std.proofs.lemmas.Nat.{mod-mul-add, le-div}
@@ -159,3 +159,26 @@ visits_ascend m last (suc l) index p pos =
 -- so do those that a node meets
 pub present_ascends : (m : BlockMap) (node : Root) → 0 < per_block m.size → IsAscending (present_of m node)
 present_ascends m node pos = parts_ascend m (leaves_below m node) node.levels 16 0 (λ j. slice_index_or node.pointers j absent) pos (λ j h. visits_ascend m (leaves_below m node) node.levels (0 + j) (slice_index_or node.pointers j absent) pos)
+
+-- a leaf that is met, whatever the tests say
+leaf_low : (a : Bool) (last : ℕ) (z : Bool) (top v : Visit) → z ≡ nat_le last top.index → Contains (if a || z then [] else top ∷ []) v → v.index < last
+leaf_low true last z top v is c = absurd (omega (arith, c.1))
+leaf_low false last true top v is c = absurd (omega (arith, c.1))
+leaf_low false last false top v is c = elim (Contains-cases top v [] c) [ inl same ↦ subst (λ (x : Visit). x.index < last) same (leb-false last top.index (sym is)) | inr none ↦ absurd (omega (arith, none.1)) ]
+
+-- or one below a block
+block_low : (a z k : Bool) (top v : Visit) (xs : List Visit) → top.level ≢ v.level → Contains (if a || z then [] else top ∷ (if k then xs else [])) v → Contains xs v
+block_low true z k top v xs apart c = absurd (omega (arith, c.1))
+block_low false true k top v xs apart c = absurd (omega (arith, c.1))
+block_low false false true top v xs apart c = elim (Contains-cases top v xs c) [ inl is ↦ absurd (apart (ap (λ (z : Visit). z.level) is)) | inr there ↦ there ]
+block_low false false false top v xs apart c = elim (Contains-cases top v [] c) [ inl is ↦ absurd (apart (ap (λ (z : Visit). z.level) is)) | inr none ↦ absurd (omega (arith, none.1)) ]
+
+-- a leaf that is met below a pointer lies below the size
+pub under_low : (m : BlockMap) (last l index p : ℕ) (v : Visit) → Contains (visits_under m last l index p) v → v.level ≡ 0 → v.index < last
+under_low m last zero index p v c none = leaf_low (p == absent) last (nat_le last index) (record { level = zero; index = index; block = p }) v refl c
+under_low m last (suc l) index p v c none =
+    let P : ℕ = per_block m.size in
+    let part : ℕ → List Visit = λ w. visits_under m last l (index * P + w) (word m p w) in
+    let there : Contains (parts_below P part) v = block_low (p == absent) (nat_le last (index * P ^ suc l)) (nat_lt p m.count) (record { level = suc l; index = index; block = p }) v (parts_below P part) (λ e. omega (arith, e, none)) c in
+    let from : (w : ℕ) × (w < P) × Contains (part w) v = parts-Contains P part v there in
+    under_low m last l (index * P + from.0) (word m p from.0) v from.2 none

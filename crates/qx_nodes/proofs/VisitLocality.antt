@@ -10,7 +10,7 @@ use Rattle.qx_nodes.specs.Leaves.{leaves_below}
 use Rattle.qx_nodes.specs.Visits.{AgreesOn, Visit, visits_of, visits_under}
 
 -- a visit and those below it, whatever the two tests say
-if_parts : (b c : Bool) (v : Visit) (xs ys : List Visit) (Q : Visit → Type 0)
+pub if_parts : (b c : Bool) (v : Visit) (xs ys : List Visit) (Q : Visit → Type 0)
     → ((w : Visit) → Contains (if b then [] else v ∷ (if c then xs else [])) w → Q w)
     → (((w : Visit) → Contains (v ∷ xs) w → Q w) → xs ≡ ys)
     → (if b then [] else v ∷ (if c then xs else [])) ≡ (if b then [] else v ∷ (if c then ys else []))

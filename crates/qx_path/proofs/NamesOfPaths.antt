@@ -1,8 +1,8 @@
 -- What every name of a path is.
-use Rattle.std.proofs.Common.{◌≡◌, ℕ, zero, suc, ◌<◌, Bool, true, false, not, ◌&&◌, ◌||◌, cond, if◌then◌else◌, List, [], ◌∷◌, length, filter, Option, None, Some, IfSome, Ok, Err, nat_lt, nat_le, ◌==◌, refl, arith, Bor}
+use Rattle.std.proofs.Common.{◌≡◌, ℕ, zero, suc, ◌<◌, Bool, true, false, not, ◌||◌, cond, if◌then◌else◌, List, [], ◌∷◌, length, filter, Option, None, Some, IfSome, Ok, Err, nat_lt, nat_le, ◌==◌, refl, arith, Bor}
 use Rattle.std.specs.List.{last_or, list_all, list_any, onto_first, slice_split}
 use Rattle.std.specs.Option.{option_copied}
-use Rattle.std.proofs.lemmas.Bool.{lt-ltb, le-leb, ltb-false}
+use Rattle.std.proofs.lemmas.Bool.{lt-ltb, le-leb, ltb-false, and_parts, or_parts}
 use Rattle.qx_path.specs.declared.fault.PathFault.TheVariants.{Empty, TooLong, NameTooLong, ZeroByte}
 use Rattle.qx_path.specs.Names.{is_empty, is_slash, names_in}
 use Rattle.qx_path.specs.PathParts.{PathParts, is_name, parts_of, path_of}
@@ -10,16 +10,6 @@ use Rattle.qx_path.specs.PathParts.{PathParts, is_name, parts_of, path_of}
 -- the byte may stand in a name
 abbrev is_plain : ℕ → Bool
 is_plain byte = not ((byte == 0) || is_slash byte)
-
--- both tests pass
-both : (a b : Bool) → (a && b) ≡ true → (a ≡ true) × (b ≡ true)
-both true b h = (refl, h)
-both false b h = absurd (cc)
-
--- neither test passes
-neither : (a b : Bool) → (a || b) ≡ false → (a ≡ false) × (b ≡ false)
-neither true b h = absurd (cc)
-neither false b h = (refl, h)
 
 -- a plain byte in front of plain pieces
 plain-onto_first : (byte : ℕ) (pieces : List (List ℕ)) → is_plain byte ≡ true → list_all (list_all is_plain) pieces ≡ true → list_all (list_all is_plain) (onto_first byte pieces) ≡ true
@@ -30,7 +20,7 @@ plain-onto_first byte (piece ∷ pieces) plain all = rw plain all
 plain-pieces : (bytes : List ℕ) → list_any (λ byte. byte == 0) bytes ≡ false → list_all (list_all is_plain) (slice_split is_slash bytes) ≡ true
 plain-pieces [] no_zero = refl
 plain-pieces (byte ∷ bytes) no_zero =
-    let parts = neither (byte == 0) (list_any (λ b. b == 0) bytes) no_zero in
+    let parts = or_parts (byte == 0) (list_any (λ b. b == 0) bytes) no_zero in
     elim (is_slash byte) as (λ t. is_slash byte ≡ t → list_all (list_all is_plain) (cond t ([] ∷ slice_split is_slash bytes) (onto_first byte (slice_split is_slash bytes))) ≡ true) [
       | true ↦ λ _. plain-pieces bytes parts.1
       | false ↦ λ other. plain-onto_first byte (slice_split is_slash bytes) (rw (parts.0, other) refl) (plain-pieces bytes parts.1)
@@ -52,12 +42,12 @@ names-of_pieces : (pieces : List (List ℕ)) → list_all (list_all is_plain) pi
     → list_all is_name (filter (λ piece. not (is_empty piece)) pieces) ≡ true
 names-of_pieces [] plain short = refl
 names-of_pieces (piece ∷ pieces) plain short =
-    let parts = both (list_all is_plain piece) (list_all (list_all is_plain) pieces) plain in
+    let parts = and_parts (list_all is_plain piece) (list_all (list_all is_plain) pieces) plain in
     let names : List (List ℕ) = filter (λ piece. not (is_empty piece)) pieces in
     elim (is_empty piece) as (λ t. is_empty piece ≡ t → list_any (λ name. nat_lt 510 (length name)) (cond (not t) (piece ∷ names) names) ≡ false → list_all is_name (cond (not t) (piece ∷ names) names) ≡ true) [
       | true ↦ λ _ rest. names-of_pieces pieces parts.1 rest
       | false ↦ λ some rest.
-          let short_parts = neither (nat_lt 510 (length piece)) (list_any (λ name. nat_lt 510 (length name)) names) rest in
+          let short_parts = or_parts (nat_lt 510 (length piece)) (list_any (λ name. nat_lt 510 (length name)) names) rest in
           rw (name-of_piece piece some short_parts.0 parts.0) (names-of_pieces pieces parts.1 short_parts.1)
     ] refl short
 
@@ -78,7 +68,7 @@ names-of_path bytes read =
 -- the last of names is one
 pub name-last_or : (o : Option (List ℕ)) (names : List (List ℕ)) → IfSome o (λ name. is_name name ≡ true) → list_all is_name names ≡ true → IfSome (last_or o names) (λ name. is_name name ≡ true)
 name-last_or o [] some all = some
-name-last_or o (name ∷ names) some all = let parts = both (is_name name) (list_all is_name names) all in name-last_or (Some name) names parts.0 parts.1
+name-last_or o (name ∷ names) some all = let parts = and_parts (is_name name) (list_all is_name names) all in name-last_or (Some name) names parts.0 parts.1
 
 -- what holds of a lent name holds of what is lent
 pub name-copied : (o : Option (Bor (List ℕ))) → IfSome (option_copied o) (λ name. is_name name ≡ true) → IfSome o (λ name. is_name name.now ≡ true)

@@ -2,16 +2,15 @@
 use Rattle.std.proofs.Common.{◌≡◌, ℕ, zero, suc, ◌+◌, ◌*◌, ◌/◌, ◌^◌, ◌<◌, inl, inr, List, [], ◌∷◌, refl, sym, ◌∙◌, ap, subst, arith}
 use Rattle.std.specs.Prelude.{Bool, true, false, not, ◌||◌, ◌&&◌, ◌==◌, nat_le, nat_lt, if◌then◌else◌, Contains, slice_index_or}
 use Rattle.std.specs.List.{list_any}
-use Rattle.std.proofs.Math.Nat.{div-div-eq-div-mul, pow-suc}
 use Rattle.std.proofs.lemmas.Bool.{eq-eqb, eqb-true}
 use Rattle.std.proofs.lemmas.List.Folds.{list_any-append}
 use Rattle.std.proofs.lemmas.Nat.{div-mul-add}
-use Rattle.qx_geom.proofs.Members.{Contains-cases, Contains-cons, Contains-head, Contains-parts, parts-Contains}
-use Rattle.qx_geom.proofs.Truths.{and_left, and_right, not_so}
+use Rattle.qx_geom.proofs.Members.{Contains-cases, Contains-cons, Contains-parts, parts-Contains, Contains-any, any-Contains}
+use Rattle.qx_geom.proofs.Truths.{and_left, and_right, not_so, same_truth}
 use Rattle.qx_geom.specs.Lists.{each_below, parts_below}
 use Rattle.qx_geom.specs.Pointer.{absent, per_block}
 use Rattle.qx_geom.specs.declared.root.Root.{Root}
-use Rattle.qx_nodes.proofs.DistinctPositions.{LiesUnder, visits_lie}
+use Rattle.qx_nodes.proofs.DistinctPositions.{LiesUnder, visits_lie, above_one}
 use Rattle.qx_nodes.specs.BlockMap.{BlockMap, word}
 use Rattle.qx_nodes.specs.Leaves.{leaves_below}
 use Rattle.qx_nodes.specs.Visits.{Visit, is_leaf, visits_of, visits_under}
@@ -21,33 +20,6 @@ use Rattle.qx_pointers.proofs.SeenParts.{any_more}
 use Rattle.qx_pointers.specs.Parts.{has_bare_under, leaf_at}
 
 -- ---- some elements
-
--- truths that follow from each other are one
-same_truth : (a b : Bool) → (a ≡ true → b ≡ true) → (b ≡ true → a ≡ true) → a ≡ b
-same_truth true b f g = sym (f refl)
-same_truth false true f g = g refl
-same_truth false false f g = refl
-
--- an element that passes
-any_by : {A : Type 0} (test : A → Bool) (xs : List A) (x : A) → Contains xs x → test x ≡ true → list_any test xs ≡ true
-any_by test [] x c e = absurd (omega (arith, c.1))
-any_by test (y ∷ xs) x c e = elim (Contains-cases y x xs c) [
-  | inl is ↦ ap (λ b. b || list_any test xs) (ap test is ∙ e)
-  | inr there ↦ ap (λ b. test y || b) (any_by test xs x there e) ∙ or_true (test y)
-]
-  where
-    or_true : (a : Bool) → (a || true) ≡ true
-    or_true true = refl
-    or_true false = refl
-
--- is found
-any_found : {A : Type 0} (test : A → Bool) (xs : List A) → list_any test xs ≡ true → (x : A) × Contains xs x × (test x ≡ true)
-any_found test [] e = absurd (cc)
-any_found {A = A} test (y ∷ xs) e = go (test y) refl e (any_found test xs)
-  where
-    go : (b : Bool) → test y ≡ b → (b || list_any test xs) ≡ true → (list_any test xs ≡ true → (x : A) × Contains xs x × (test x ≡ true)) → (x : A) × Contains (y ∷ xs) x × (test x ≡ true)
-    go true is e more = (y, Contains-head y xs, is)
-    go false is e more = let r : (x : A) × Contains xs x × (test x ≡ true) = more e in (r.0, Contains-cons y r.0 xs r.1, r.2)
 
 -- some element of parts is one of some part
 any_parts : {A : Type 0} (test : A → Bool) (n : ℕ) (f : ℕ → List A) → list_any test (parts_below n f) ≡ list_any (λ w. list_any test (f w)) (each_below n (λ w. w))
@@ -62,10 +34,6 @@ record Covers (P : ℕ) (all part : List Visit) (level index : ℕ) : Type 0 whe
   pub lies : (v : Visit) → Contains part v → LiesUnder P level index v
   pub whole : (v : Visit) → Contains all v → v.level ≡ 0 → v.index / P ^ level ≡ index → Contains part v
 
--- one level further up
-above_one : (i P up j : ℕ) → i / P ^ up ≡ j → i / P ^ suc up ≡ j / P
-above_one i P up j e = ap (λ q. i / q) (pow-suc P up) ∙ sym (div-div-eq-div-mul i (P ^ up) P) ∙ ap (λ q. q / P) e
-
 -- a leaf lies so many levels below
 leaf_lies : (P level index : ℕ) (v : Visit) → v.level ≡ 0 → LiesUnder P level index v → v.index / P ^ level ≡ index
 leaf_lies P level index v leaf u = ap (λ k. v.index / P ^ k) (omega (arith, leaf, u.level)) ∙ u.index
@@ -76,11 +44,11 @@ leaf_below m all part level index p covers =
     let P : ℕ = per_block m.size in
     let test : Visit → Bool = λ u. (u.level == 0) && (u.index / P ^ level == index) in
     same_truth (list_any test all) (list_any is_leaf part)
-    (λ t. let found : (x : Visit) × Contains all x × (test x ≡ true) = any_found test all t in
+    (λ t. let found : (x : Visit) × Contains all x × (test x ≡ true) = any-Contains test all t in
     let leaf : is_leaf found.0 ≡ true = and_left (found.0.level == 0) (found.0.index / P ^ level == index) found.2 in
-    any_by is_leaf part found.0 (covers.whole found.0 found.1 (eqb-true found.0.level 0 leaf) (eqb-true (found.0.index / P ^ level) index (and_right (found.0.level == 0) (found.0.index / P ^ level == index) found.2))) leaf)
-    (λ t. let found : (x : Visit) × Contains part x × (is_leaf x ≡ true) = any_found is_leaf part t in
-    any_by test all found.0 (covers.inside found.0 found.1)
+    Contains-any is_leaf part found.0 (covers.whole found.0 found.1 (eqb-true found.0.level 0 leaf) (eqb-true (found.0.index / P ^ level) index (and_right (found.0.level == 0) (found.0.index / P ^ level == index) found.2))) leaf)
+    (λ t. let found : (x : Visit) × Contains part x × (is_leaf x ≡ true) = any-Contains is_leaf part t in
+    Contains-any test all found.0 (covers.inside found.0 found.1)
     (ap (λ b. b && (found.0.index / P ^ level == index)) found.2 ∙ eq-eqb (found.0.index / P ^ level) index (leaf_lies P level index found.0 (eqb-true found.0.level 0 found.2) (covers.lies found.0 found.1))))
 
 module _ (m : BlockMap) (last : ℕ) (pos : 0 < per_block m.size) (all : List Visit) where

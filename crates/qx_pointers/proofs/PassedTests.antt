@@ -15,7 +15,7 @@ gone-append met [] bs = refl
 gone-append met (a ∷ as') bs = gone-append (met_after met a) as' bs
 
 -- a halt at a finding is one at it or else another
-halts_more : (halt : Halt) (f o : Option Finding) → HaltsAt f halt → HaltsAt (or_else f o) halt
+pub halts_more : (halt : Halt) (f o : Option Finding) → HaltsAt f halt → HaltsAt (or_else f o) halt
 halts_more (halts.Finding code inode block) f o e = ap (λ z. or_else z o) e
 halts_more halts.Device f o e = tt
 halts_more halts.NoMemory f o e = tt

@@ -3,7 +3,7 @@ use Rattle.std.proofs.Common.{◌≡◌, ◌≢◌, ℕ, zero, suc, ◌+◌, ◌
 use Rattle.std.specs.Prelude.{Bool, true, false, not, ◌||◌, ◌&&◌, ◌==◌, nat_le, nat_lt, if◌then◌else◌, slice_index_or}
 use Rattle.std.specs.List.{list_any}
 use Rattle.std.proofs.Math.Nat.{pow-zero}
-use Rattle.std.proofs.lemmas.Bool.{eq-eqb, eqb-true, le-leb, leb-true, lt-ltb}
+use Rattle.std.proofs.lemmas.Bool.{eq-eqb, eqb-true, le-leb, lt-ltb, lt-leb}
 use Rattle.std.proofs.lemmas.List.FromFn.{get_or-map-range_with_len, length-map-range_with_len}
 use Rattle.qx_geom.proofs.Members.{parts_alike}
 use Rattle.qx_geom.proofs.Truths.{not_so}
@@ -29,10 +29,6 @@ pub record Meets (m : BlockMap) (last level index p : ℕ) (met : List Visit) (s
 -- two numbers that differ aren't equal by the test
 differs : (a b : ℕ) → a ≢ b → (a == b) ≡ false
 differs a b apart = not_so (a == b) (λ t. apart (eqb-true a b t))
-
--- a number that lies below isn't reached
-not_past : (a b : ℕ) → b < a → nat_le a b ≡ false
-not_past a b h = not_so (nat_le a b) (λ t. let le : a ≤ b = leb-true a b t in omega (arith, h, le))
 
 module _ (m : BlockMap) (last : ℕ) where
   -- an absent pointer
@@ -68,7 +64,7 @@ module _ (m : BlockMap) (last : ℕ) where
   -- a leaf below the size
   pub meets_leaf : (index p : ℕ) → p ≢ absent → index * per_block m.size ^ 0 < last → Meets m last 0 index p (leaf_at index p ∷ []) false false
   meets_leaf index p there below =
-      let over : nat_le last index ≡ false = not_past last index (omega (arith, below, ap (λ k. index * k) (pow-zero (per_block m.size)))) in
+      let over : nat_le last index ≡ false = lt-leb last index (omega (arith, below, ap (λ k. index * k) (pow-zero (per_block m.size)))) in
       record {
         visits = (λ i. if differs p absent there i || over i then [] else leaf_at index p ∷ []);
         strays = (λ i. not (differs p absent there i) && over i);
@@ -85,7 +81,7 @@ module _ (m : BlockMap) (last : ℕ) where
       (list_any (λ w. is_stray_under m last l (index * per_block m.size + w) (word m p w)) (each_below (per_block m.size) (λ w. w)))
       (not (list_any is_leaf (block_at (suc l) index p ∷ parts_of l index p)) || list_any (λ w. has_bare_under m last l (index * per_block m.size + w) (word m p w)) (each_below (per_block m.size) (λ w. w)))
   meets_block l index p there below block =
-      let over : nat_le last (index * per_block m.size ^ suc l) ≡ false = not_past last (index * per_block m.size ^ suc l) below in
+      let over : nat_le last (index * per_block m.size ^ suc l) ≡ false = lt-leb last (index * per_block m.size ^ suc l) below in
       let visits : visits_under m last (suc l) index p ≡ block_at (suc l) index p ∷ parts_of l index p = (λ i. if differs p absent there i || over i then [] else block_at (suc l) index p ∷ (if lt-ltb p m.count block i then parts_of l index p else [])) in
       record {
         visits = visits;
@@ -104,7 +100,7 @@ module _ (m : BlockMap) (last : ℕ) where
   pub begins : (level index p : ℕ) → p ≢ absent → index * per_block m.size ^ level < last → Begins p (visits_under m last level index p)
   begins zero index p there below = record { first = leaf_at index p; rest = []; is = (meets_leaf index p there below).visits; block = refl }
   begins (suc l) index p there below =
-      let over : nat_le last (index * per_block m.size ^ suc l) ≡ false = not_past last (index * per_block m.size ^ suc l) below in
+      let over : nat_le last (index * per_block m.size ^ suc l) ≡ false = lt-leb last (index * per_block m.size ^ suc l) below in
       record {
         first = block_at (suc l) index p;
         rest = if nat_lt p m.count then parts_of l index p else [];

@@ -9,6 +9,7 @@ use Rattle.std.proofs.lemmas.List.{append-nil, append_assoc, length-append, map-
 use Rattle.std.proofs.lemmas.List.Elements.{filter-append}
 use Rattle.std.proofs.lemmas.List.Folds.{find-append, list_any-append}
 use Rattle.std.proofs.lemmas.List.FromFn.{map-range_with_len_more}
+use Rattle.std.proofs.Math.Bool.{or-false}
 use Rattle.qx_blockset.specs.Members.{Members}
 use Rattle.qx_geom.specs.Lists.{each_below}
 use Rattle.qx_geom.specs.Pointer.{absent}
@@ -101,11 +102,7 @@ module _ (m : BlockMap) (visitor : Visitor) (last : ℕ) where
 
 -- some number below one more
 pub any_more : (n : ℕ) (f : ℕ → Bool) → list_any f (each_below (suc n) (λ w. w)) ≡ (list_any f (each_below n (λ w. w)) || f n)
-any_more n f = ap (λ k. list_any f (each_below k (λ w. w))) (sym (add-one n)) ∙ (ap (list_any f) (map-range_with_len_more (λ w. w) 0 n n (omega arith)) ∙ list_any-append f (each_below n (λ w. w)) (n ∷ []) ∙ ap (λ b. list_any f (each_below n (λ w. w)) || b) (or_none (f n)))
-  where
-    or_none : (b : Bool) → (b || false) ≡ b
-    or_none true = refl
-    or_none false = refl
+any_more n f = ap (λ k. list_any f (each_below k (λ w. w))) (sym (add-one n)) ∙ (ap (list_any f) (map-range_with_len_more (λ w. w) 0 n n (omega arith)) ∙ list_any-append f (each_below n (λ w. w)) (n ∷ []) ∙ ap (λ b. list_any f (each_below n (λ w. w)) || b) (or-false (f n)))
 
 module _ (m : BlockMap) (visitor : Visitor) (last level first : ℕ) (pointers : List ℕ) where
   -- one more pointer

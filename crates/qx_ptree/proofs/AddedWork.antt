@@ -3,6 +3,7 @@ use Rattle.std.proofs.Common.{◌≡◌, ℕ, inl, inr, [], ◌∷◌, ◌++◌,
 use Rattle.std.specs.Prelude.{true, IsTrue}
 use Rattle.std.proofs.lemmas.List.{append-nil, append_assoc}
 use Rattle.std.proofs.lemmas.List.Elements.{Contains-append_cases}
+use Rattle.std.proofs.lemmas.Bool.{or_left}
 use Rattle.qx_geom.specs.Lists.{is_in}
 use Rattle.qx_geom.proofs.Members.{Contains-cases, in_append_cases, in_cases, in_head, in_left, in_right}
 use Rattle.qx_blocks.specs.BlockState.{BlockState}
@@ -10,7 +11,6 @@ use Rattle.qx_blocks.specs.Calls.{MakesReady}
 use Rattle.qx_ptree.specs.Building.{with_released, work_edited, work_kept, work_lost, work_moved, work_taken}
 use Rattle.qx_ptree.specs.Takings.{Adds, Takes}
 use Rattle.qx_ptree.specs.WorkState.{CanEdit, EditState, WorkState, and_then, no_work}
-use Rattle.qx_ptree.proofs.ListedBlocks.{either_left}
 use Rattle.qx_ptree.proofs.TakenBlocks.{Takes-ready, Takes-then, ready-made}
 
 -- ---- the work itself
@@ -69,7 +69,7 @@ CanEdit-one m b bytes ready long e c = elim (Contains-cases (record { block = b;
 pub CanEdit-later : (fresh : List ℕ) (m n : BlockState) (work : WorkState) → Takes fresh m n → CanEdit m work → CanEdit n work
 CanEdit-later fresh m n work f can e c =
     let was = can e c in
-    (f.ready e.block (either_left (m.holdings.ready e.block) (is_in fresh e.block) was.0), was.1 ∙ sym f.size, was.2)
+    (f.ready e.block (or_left (m.holdings.ready e.block) (is_in fresh e.block) was.0), was.1 ∙ sym f.size, was.2)
 
 -- what each of two works can edit
 pub CanEdit-then : (m : BlockState) (a b : WorkState) → CanEdit m a → CanEdit m b → CanEdit m (and_then a b)
@@ -152,7 +152,7 @@ adds_edited m n before after b bytes r long noted = record {
 -- blocks that stay are ready after more work
 pub kept-then : (m n o : BlockState) (a b c : WorkState) (f : Adds m n a b) (g : Adds n o b c) (q : ℕ) → is_in (f.added.kept ++ g.added.kept) q ≡ true → IsTrue (o.holdings.ready q)
 kept-then m n o a b c f g q t = elim (in_append_cases f.added.kept g.added.kept q t) [
-  | inl first ↦ g.takes.ready q (either_left (n.holdings.ready q) (is_in g.added.fresh q) (f.kept q first))
+  | inl first ↦ g.takes.ready q (or_left (n.holdings.ready q) (is_in g.added.fresh q) (f.kept q first))
   | inr second ↦ g.kept q second
 ]
 

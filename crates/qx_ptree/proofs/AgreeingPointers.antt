@@ -13,22 +13,14 @@ use Rattle.qx_geom.specs.Lists.{each_below, parts_below}
 use Rattle.qx_geom.specs.Pointer.{absent, per_block}
 use Rattle.qx_nodes.specs.BlockMap.{BlockMap, with_bytes, word}
 use Rattle.qx_nodes.specs.ForeignNodes.{has_bare_block, has_leaf_below, has_strays, is_foreign_node, is_stray_under}
-use Rattle.qx_nodes.specs.Leaves.{Damage, Hole, Leaf, leaf_of, leaf_under, leaves_below}
+use Rattle.qx_nodes.specs.Leaves.{leaf_of, leaf_under, leaves_below}
 use Rattle.qx_nodes.specs.Visits.{LiesBelow, Visit, visits_of, visits_under}
-use Rattle.qx_nodes.proofs.LeafPaths.{begins_before, way_down}
+use Rattle.qx_nodes.proofs.LeafPaths.{begins_before, way_down, if_leaf}
+use Rattle.qx_nodes.proofs.VisitLocality.{if_parts}
 
 -- the same bytes stand in each pointer block of these visits
 abbrev pub AgreesAbove : BlockMap → (ℕ → List ℕ) → List Visit → Type 0
 AgreesAbove m g visits = (v : Visit) → Contains visits v → 0 < v.level → m.bytes v.block ≡ g v.block
-
--- a visit and those below it, whatever the two tests say
-if_parts : (b c : Bool) (v : Visit) (xs ys : List Visit) (Q : Visit → Type 0)
-    → ((w : Visit) → Contains (if b then [] else v ∷ (if c then xs else [])) w → Q w)
-    → (((w : Visit) → Contains (v ∷ xs) w → Q w) → xs ≡ ys)
-    → (if b then [] else v ∷ (if c then xs else [])) ≡ (if b then [] else v ∷ (if c then ys else []))
-if_parts true c v xs ys Q h k = refl
-if_parts false true v xs ys Q h k = ap (λ zs. v ∷ zs) (k h)
-if_parts false false v xs ys Q h k = refl
 
 -- what is met below a pointer is the same where the pointer blocks agree
 visits_under_above : (m : BlockMap) (g : ℕ → List ℕ) (last l index p : ℕ) → AgreesAbove m g (visits_under m last l index p) → visits_under m last l index p ≡ visits_under (with_bytes m g) last l index p
@@ -47,16 +39,6 @@ visits_under_above m g last (suc l) index p same =
 pub visits_above : (m : BlockMap) (g : ℕ → List ℕ) (node : Root) → AgreesAbove m g (visits_of m node) → visits_of m node ≡ visits_of (with_bytes m g) node
 visits_above m g node same = parts_alike 16 _ _ (λ j h. visits_under_above m g (leaves_below m node) node.levels j (slice_index_or node.pointers j absent)
     (λ v c. same v (Contains-parts 16 (λ j. visits_under m (leaves_below m node) node.levels j (slice_index_or node.pointers j absent)) j v h c)))
-
--- a leaf by a pointer, whatever the tests say
-if_leaf : (a z c : Bool) (v : Visit) (xs : List Visit) (x y : Leaf) (Q : Visit → Type 0) → z ≡ false
-    → ((w : Visit) → Contains (if a || z then [] else v ∷ (if c then xs else [])) w → Q w)
-    → (((w : Visit) → Contains (v ∷ xs) w → Q w) → x ≡ y)
-    → (if a then Hole else if c then x else Damage) ≡ (if a then Hole else if c then y else Damage)
-if_leaf true z c v xs x y Q e h k = refl
-if_leaf false true c v xs x y Q e h k = absurd (cc)
-if_leaf false false true v xs x y Q e h k = k h
-if_leaf false false false v xs x y Q e h k = refl
 
 -- a leaf is the same where the pointer blocks that its node meets are
 leaf_under_above : (m : BlockMap) (g : ℕ → List ℕ) (last l p i : ℕ) → 0 < per_block m.size → i < last → AgreesAbove m g (visits_under m last l (i / per_block m.size ^ l) p) → leaf_under m l p i ≡ leaf_under (with_bytes m g) l p i

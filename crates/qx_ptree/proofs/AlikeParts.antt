@@ -1,8 +1,9 @@
 -- The part below a block whose leaves all have one fate.
 use Rattle.std.proofs.Common.{◌≡◌, ℕ, zero, suc, ◌+◌, ◌*◌, ◌^◌, ◌<◌, ◌≤◌, ◌⊎◌, inl, inr, refl, sym, ◌∙◌, ap, subst, arith, pow-suc}
-use Rattle.std.specs.Prelude.{Bool, true, false, ◌||◌}
+use Rattle.std.specs.Prelude.{Bool, true, false}
 use Rattle.std.proofs.Math.Nat.{add-mul, mul-le-mul_right, mul_assoc, mul_comm, one-mul, pow-zero}
 use Rattle.std.proofs.Math.Numerals.{suc-eq-add-one}
+use Rattle.std.proofs.Math.Bool.{or-true}
 use Rattle.qx_geom.specs.Lists.{IsAscending}
 use Rattle.qx_geom.specs.Pointer.{per_block}
 use Rattle.qx_geom.specs.Positions.{Shape, has_position}
@@ -51,11 +52,7 @@ sum_same (suc n) x = ap (λ s. s + x) (sum_same n x) ∙ (let e : suc n * x ≡ 
 any_same : (n : ℕ) → 0 < n → any_up_to n (λ w. true) ≡ true
 unfolding any_up_to
 any_same zero positive = absurd (omega arith)
-any_same (suc n) positive = always (any_up_to n (λ w. true))
-  where
-    always : (b : Bool) → (b || true) ≡ true
-    always true = refl
-    always false = refl
+any_same (suc n) positive = or-true (any_up_to n (λ w. true))
 
 module _ (blocksize : ℕ) (old : Shape) (c : Change) (private : ℕ → ℕ → Bool) (up : IsAscending old.present) (some : 0 < per_block blocksize) where
   -- the part below a block, a level up

@@ -1,9 +1,8 @@
 -- A leaf that was built, and a pointer block above what was built below its words.
-use Rattle.std.proofs.Common.{◌≡◌, ◌≢◌, ℕ, zero, suc, ◌+◌, ◌*◌, ◌-◌, ◌^◌, ◌/◌, ◌%◌, ◌<◌, ◌≤◌, ◌⊎◌, inl, inr, List, ◌++◌, length, length-append, refl, sym, ◌∙◌, ap, subst, arith}
+use Rattle.std.proofs.Common.{◌≡◌, ◌≢◌, ℕ, zero, suc, ◌+◌, ◌*◌, ◌-◌, ◌^◌, ◌/◌, ◌%◌, ◌<◌, ◌≤◌, ◌⊎◌, inl, inr, List, ◌++◌, length, length-append, sym, ◌∙◌, ap, subst, arith}
 use Rattle.std.specs.Prelude.{Bool, true, ◌==◌, if◌then◌else◌, Contains, sum_by}
 use Rattle.std.specs.List.{range_with_len}
 use Rattle.std.proofs.Math.Nat.{div-div-eq-div-mul, mod-lt, mul_comm, pow-suc}
-use Rattle.std.proofs.Math.Numerals.{add-one}
 use Rattle.std.proofs.lemmas.Bool.{cases_lt}
 use Rattle.std.proofs.lemmas.List.Elements.{Contains-append_cases, Contains-append_left}
 use Rattle.std.proofs.lemmas.Nat.{div-add-mod', div-mul-add}
@@ -23,22 +22,16 @@ use Rattle.qx_ptree.specs.Parts.{fresh_below}
 use Rattle.qx_ptree.specs.Plans.{alteration_in, planned_pointer}
 use Rattle.qx_ptree.specs.Trees.{block_map}
 use Rattle.qx_ptree.specs.WorkState.{EditState, WorkState, and_then}
-use Rattle.qx_ptree.proofs.BuiltRows.{old_wider, placed_more, planned_apart, shows_part, sum_more, sum_one}
+use Rattle.qx_ptree.proofs.BuiltRows.{old_wider, placed_more, planned_apart, shows_part, sum_one}
 use Rattle.qx_ptree.proofs.LeafParts.{new-ascends}
 use Rattle.qx_ptree.proofs.OwnWork.{IsOwn, IsOwnWork}
 use Rattle.qx_ptree.proofs.PartsOfBlocks.{fresh-leaf, fresh-up}
 use Rattle.qx_ptree.proofs.PlannedPointers.{IsToldPlan}
 use Rattle.qx_ptree.proofs.PointerCounts.{words_positive}
-use Rattle.qx_ptree.proofs.SumsBelow.{sum_up_to}
+use Rattle.qx_ptree.proofs.SumsBelow.{sum_from}
 use Rattle.qx_ptree.proofs.UnderRows.{far_up, own_under, under_own, under_words, words_under}
 
 -- ---- numbers
-
--- a sum over neighbours
-pub sum_row : (f : ℕ → ℕ) (a n : ℕ) → sum_by f (range_with_len a n) ≡ sum_up_to n (λ k. f (a + k))
-unfolding sum_up_to
-sum_row f a zero = refl
-sum_row f a (suc n) = ap (λ k. sum_by f (range_with_len a k)) (sym (add-one n)) ∙ sum_more f a n ∙ ap (λ s. s + f (a + n)) (sum_row f a n)
 
 -- a quotient by a power, one step before
 pub div_first : (P d j : ℕ) → j / P / P ^ d ≡ j / P ^ suc d
@@ -197,7 +190,7 @@ module _ (m n : BlockState) (plan : Plan) (p : IsToldPlan m plan) (l index q : �
   count_all : length (w.fresh ++ v.fresh) ≡ sum_by (fresh_below a (suc l)) (range_with_len index 1)
   count_all =
       length-append w.fresh v.fresh
-      ∙ (λ i. (b.count ∙ sum_row (fresh_below a l) (index * P) P) i + c.count i)
+      ∙ (λ i. (b.count ∙ sum_from (fresh_below a l) (index * P) P) i + c.count i)
       ∙ sym (fresh-up a l index (altered_ascends m plan p) some within) ∙ sym (sum_one (fresh_below a (suc l)) index)
 
   -- the work below its words and the block's own build it

@@ -2,7 +2,7 @@
 use Rattle.std.proofs.Common.{◌≡◌, ◌≢◌, ℕ, ◌+◌, ◌*◌, ◌-◌, ◌/◌, ◌^◌, ◌<◌, ◌≤◌, inl, inr, List, ◌++◌, length, refl, sym, ◌∙◌, ap, subst, arith}
 use Rattle.std.specs.Prelude.{Bool, true, false, not, ◌&&◌, ◌==◌, if◌then◌else◌, IsTrue, Contains, slice_index}
 use Rattle.std.proofs.Math.Nat.{div-div-eq-div-mul}
-use Rattle.std.proofs.lemmas.Bool.{cases_lt, eq-eqb}
+use Rattle.std.proofs.lemmas.Bool.{cases_lt, eq-eqb, not-false}
 use Rattle.std.proofs.lemmas.Nat.{div_below, pow-add}
 use Rattle.qx_geom.specs.declared.root.Root.{Root}
 use Rattle.qx_geom.specs.Lists.{is_in}
@@ -31,11 +31,6 @@ use Rattle.qx_ptree.proofs.PointersByPosition.{at_above}
 use Rattle.qx_ptree.proofs.WholeNeed.{new-reached}
 
 -- ---- truths
-
--- what is denied falsely is so
-pub not_false : (b : Bool) → not b ≡ false → b ≡ true
-not_false true e = refl
-not_false false e = absurd (cc)
 
 -- a choice that is false where the test passes
 pub passes_not : (b : Bool) → (if b then false else true) ≡ true → b ≡ false
@@ -160,7 +155,7 @@ module _ (m n : BlockState) (plan : Plan) (root : Root) (outside : List ℕ) (re
   pub stale-old : (k j : ℕ) → takes_fresh (alteration_in plan m) k j ≡ false → planned_pointer plan m k j ≢ absent
   stale-old k j stale is =
       let a : Alteration = alteration_in plan m in
-      let had : has_position m.holdings.size a.old k j ≡ true = not_false (has_position m.holdings.size a.old k j) (or_left (not (has_position m.holdings.size a.old k j)) (is_touched a.blocksize a.old a.new a.written k j && not (a.private k j)) stale) in
+      let had : has_position m.holdings.size a.old k j ≡ true = not-false (has_position m.holdings.size a.old k j) (or_left (not (has_position m.holdings.size a.old k j)) (is_touched a.blocksize a.old a.new a.written k j && not (a.private k j)) stale) in
       true_or_false (planned_pointer plan m k j == absent) (eq-eqb (planned_pointer plan m k j) absent is) (not_true (planned_pointer plan m k j == absent) (sym (planned_position m plan k j b.told) ∙ had))
 
   -- so a position that keeps its block has one

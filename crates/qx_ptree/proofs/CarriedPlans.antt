@@ -1,7 +1,8 @@
 -- What a plan says of its node after a call that took blocks: the same as before it.
 use Rattle.std.proofs.Common.{◌≡◌, ◌≢◌, ℕ, zero, suc, ◌+◌, ◌*◌, ◌-◌, ◌^◌, ◌/◌, ◌%◌, ◌<◌, ◌≤◌, inl, inr, List, length, refl, sym, ◌∙◌, ap, subst, arith}
 use Rattle.std.specs.Prelude.{Bool, true, false, not, ◌&&◌, ◌||◌, nat_le, ◌==◌, nat_lt, if◌then◌else◌, IsTrue, Contains, map, filter, replicate}
-use Rattle.std.proofs.lemmas.Bool.{cases_eq, eq-eqb, ne_eqb}
+use Rattle.std.proofs.lemmas.Bool.{cases_eq, eq-eqb, ne_eqb, or_left}
+use Rattle.std.proofs.Math.Bool.{or-true, or-false}
 use Rattle.qx_fields.specs.Number.{field}
 use Rattle.std.specs.List.{list_any, range_with_len}
 use Rattle.qx_geom.specs.Layout.{levels_for}
@@ -28,10 +29,6 @@ use Rattle.qx_ptree.proofs.PointersByPosition.{at_from, from_step}
 
 -- ---- truths
 
--- what holds, holds of either
-or_first : (a b : Bool) → a ≡ true → (a || b) ≡ true
-or_first a b e = ap (λ t. t || b) e
-
 -- tests that are alike below a bound
 any_alike : (n a : ℕ) (f g : ℕ → Bool) → ((w : ℕ) → w < a + n → f w ≡ g w) → list_any f (map (λ w. w) (range_with_len a n)) ≡ list_any g (map (λ w. w) (range_with_len a n))
 any_alike zero a f g same = refl
@@ -45,27 +42,19 @@ held_old f m n b t held = not_so (is_in f b) (λ e. true_or_false (m.holdings.he
 
 -- what was held still is
 pub held_after : (f : List ℕ) (m n : BlockState) (b : ℕ) → Takes f m n → IsTrue (m.holdings.held b) → IsTrue (n.holdings.held b)
-held_after f m n b t held = t.held b ∙ or_first (m.holdings.held b) (is_in f b) held
+held_after f m n b t held = t.held b ∙ or_left (m.holdings.held b) (is_in f b) held
 
 -- and what worked
 pub works_after : (f : List ℕ) (m n : BlockState) (b : ℕ) → Takes f m n → IsTrue (m.holdings.works b) → IsTrue (n.holdings.works b)
-works_after f m n b t works = t.works b ∙ or_first (m.holdings.works b) (is_in f b) works
+works_after f m n b t works = t.works b ∙ or_left (m.holdings.works b) (is_in f b) works
 
 -- what is fresh is held
 pub fresh_held : (f : List ℕ) (m n : BlockState) (b : ℕ) → Takes f m n → is_in f b ≡ true → IsTrue (n.holdings.held b)
-fresh_held f m n b t fresh = t.held b ∙ ap (λ x. m.holdings.held b || x) fresh ∙ second (m.holdings.held b)
-  where
-    second : (a : Bool) → (a || true) ≡ true
-    second true = refl
-    second false = refl
+fresh_held f m n b t fresh = t.held b ∙ ap (λ x. m.holdings.held b || x) fresh ∙ or-true (m.holdings.held b)
 
 -- a block that was held is private where it was
 pub private_after : (f : List ℕ) (m n : BlockState) (b : ℕ) → Takes f m n → IsTrue (m.holdings.held b) → n.holdings.private b ≡ m.holdings.private b
-private_after f m n b t held = t.private b ∙ ap (λ x. m.holdings.private b || x) (held_old f m n b t held) ∙ first (m.holdings.private b)
-  where
-    first : (a : Bool) → (a || false) ≡ a
-    first true = refl
-    first false = refl
+private_after f m n b t held = t.private b ∙ ap (λ x. m.holdings.private b || x) (held_old f m n b t held) ∙ or-false (m.holdings.private b)
 
 -- no block has the absent number
 pub absent_free : (m : BlockState) → IsConsistent m → m.holdings.held absent ≡ false

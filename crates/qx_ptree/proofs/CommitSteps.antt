@@ -1,30 +1,17 @@
 -- What a commit leaves of each block: an edit changes the bytes of its block alone, and a block that isn't given up stays held as it was.
 use Rattle.std.proofs.Common.{◌≡◌, ℕ, arith, inl, inr, List, [], ◌∷◌, refl, sym, ◌∙◌, ap, subst}
 use Rattle.std.specs.Prelude.{Bool, true, false, nat_eq, if◌then◌else◌, IsTrue, Contains}
-use Rattle.std.proofs.lemmas.Bool.{cases_eq, eq-eqb, ne_eqb}
+use Rattle.std.proofs.lemmas.Bool.{cases_eq, eq-eqb}
 use Rattle.qx_geom.proofs.Members.{Contains-cases, Contains-cons, Contains-head, in_cases}
 use Rattle.qx_geom.proofs.Truths.{or_left, or_right, true_or_false}
 use Rattle.qx_geom.specs.Lists.{is_in}
 use Rattle.qx_blocks.specs.BlockState.{BlockState, put, with_bytes, with_free, with_shared}
 use Rattle.qx_ptree.specs.Altered.{IsSameBlock}
 use Rattle.qx_ptree.specs.WorkState.{EditState, Preparation, committed, given_up, with_edits, without_all}
-
--- ---- one number of a function
-
--- the other numbers keep their values
-pub put-other : {A : Type 0} (f : ℕ → A) (b q : ℕ) (x : A) → (q ≡ b → ⊥) → put f b x q ≡ f q
-put-other f b q x apart = ap (λ t. if t then x else f q) (ne_eqb q b apart)
-
--- the number itself has the new one
-pub put-here : {A : Type 0} (f : ℕ → A) (b q : ℕ) (x : A) → q ≡ b → put f b x q ≡ x
-put-here f b q x is = ap (λ t. if t then x else f q) (eq-eqb q b is)
+use Rattle.qx_ptree.proofs.ListedBlocks.{put-other, put-at}
+use Rattle.qx_ptree.proofs.EditedBlocks.{edits_holdings}
 
 -- ---- edits
-
--- edits leave who holds what
-pub edits-holdings : (m : BlockState) (es : List EditState) → (with_edits m es).holdings ≡ m.holdings
-edits-holdings m [] = refl
-edits-holdings m (e ∷ es) = edits-holdings (with_bytes m e.block e.bytes) es
 
 -- a block that no edit is of keeps its bytes
 pub edits-others : (m : BlockState) (es : List EditState) (q : ℕ) → ((e : EditState) → Contains es e → e.block ≡ q → ⊥) → (with_edits m es).bytes q ≡ m.bytes q
@@ -37,7 +24,7 @@ edits-stay : (m : BlockState) (es : List EditState) (q : ℕ) (bytes : List ℕ)
 edits-stay m [] q bytes same is = is
 edits-stay m (e ∷ es) q bytes same is =
     edits-stay (with_bytes m e.block e.bytes) es q bytes (λ f c. same f (Contains-cons e f es c))
-    (elim (cases_eq e.block q) [ inl here ↦ put-here m.bytes e.block q e.bytes (sym here) ∙ same e (Contains-head e es) here | inr apart ↦ put-other m.bytes e.block q e.bytes (λ here. apart (sym here)) ∙ is ])
+    (elim (cases_eq e.block q) [ inl here ↦ put-at m.bytes e.block q e.bytes (sym here) ∙ same e (Contains-head e es) here | inr apart ↦ put-other m.bytes e.block q e.bytes (λ here. apart (sym here)) ∙ is ])
 
 -- and a block that an edit is of has them
 pub edits-bytes : (m : BlockState) (es : List EditState) (q : ℕ) (bytes : List ℕ) (f : EditState) → ((e : EditState) → Contains es e → e.block ≡ q → e.bytes ≡ bytes) → Contains es f → f.block ≡ q → (with_edits m es).bytes q ≡ bytes
@@ -45,7 +32,7 @@ edits-bytes m [] q bytes f same c is = absurd (omega (arith, c.1))
 edits-bytes m (e ∷ es) q bytes f same c is = elim (Contains-cases e f es c) [
   | inl first ↦
       let here : q ≡ e.block = sym is ∙ ap (λ (x : EditState). x.block) (sym first) in
-      edits-stay (with_bytes m e.block e.bytes) es q bytes (λ g d. same g (Contains-cons e g es d)) (put-here m.bytes e.block q e.bytes here ∙ same e (Contains-head e es) (sym here))
+      edits-stay (with_bytes m e.block e.bytes) es q bytes (λ g d. same g (Contains-cons e g es d)) (put-at m.bytes e.block q e.bytes here ∙ same e (Contains-head e es) (sym here))
   | inr later ↦ edits-bytes (with_bytes m e.block e.bytes) es q bytes f (λ g d. same g (Contains-cons e g es d)) later is
 ]
 
@@ -83,7 +70,7 @@ given_up-idle : (m : BlockState) (b q : ℕ) → m.holdings.works q ≡ false �
 given_up-idle m b q idle = go (m.holdings.works b) (m.holdings.private b)
   where
     none : put m.holdings.works b false q ≡ false
-    none = elim (cases_eq q b) [ inl is ↦ put-here m.holdings.works b q false is | inr apart ↦ put-other m.holdings.works b q false apart ∙ idle ]
+    none = elim (cases_eq q b) [ inl is ↦ put-at m.holdings.works b q false is | inr apart ↦ put-other m.holdings.works b q false apart ∙ idle ]
 
     go : (w p : Bool) → (if w then (if p then with_free m b else with_shared m b) else m).holdings.works q ≡ false
     go true true = none
@@ -95,7 +82,7 @@ given_up-here : (m : BlockState) (b : ℕ) → (given_up m b).holdings.works b �
 given_up-here m b = go (m.holdings.works b) (m.holdings.private b) refl
   where
     none : put m.holdings.works b false b ≡ false
-    none = put-here m.holdings.works b b false refl
+    none = put-at m.holdings.works b b false refl
 
     go : (w p : Bool) → m.holdings.works b ≡ w → (if w then (if p then with_free m b else with_shared m b) else m).holdings.works b ≡ false
     go true true e = none
@@ -133,11 +120,11 @@ without-sizes m (b ∷ bs) =
 module _ (m : BlockState) (p : Preparation) where
   -- the blocks stay as long
   pub committed-size : (committed m p).holdings.size ≡ m.holdings.size
-  committed-size = (without-sizes (with_edits m p.work.edits) p.work.released).0 ∙ ap (λ h. h.size) (edits-holdings m p.work.edits)
+  committed-size = (without-sizes (with_edits m p.work.edits) p.work.released).0 ∙ ap (λ h. h.size) (edits_holdings m p.work.edits)
 
   -- and as many
   pub committed-count : (committed m p).holdings.count ≡ m.holdings.count
-  committed-count = (without-sizes (with_edits m p.work.edits) p.work.released).1 ∙ ap (λ h. h.count) (edits-holdings m p.work.edits)
+  committed-count = (without-sizes (with_edits m p.work.edits) p.work.released).1 ∙ ap (λ h. h.count) (edits_holdings m p.work.edits)
 
   -- the working tree holds none of the blocks that are given up
   pub committed-gone : (q : ℕ) → is_in p.work.released q ≡ true → (committed m p).holdings.works q ≡ false
@@ -146,11 +133,11 @@ module _ (m : BlockState) (p : Preparation) where
   module _ (q : ℕ) (stays : is_in p.work.released q ≡ false) where
     -- it holds the others as before
     pub committed-works : (committed m p).holdings.works q ≡ m.holdings.works q
-    committed-works = (without-others (with_edits m p.work.edits) p.work.released q stays).works ∙ ap (λ h. h.works q) (edits-holdings m p.work.edits)
+    committed-works = (without-others (with_edits m p.work.edits) p.work.released q stays).works ∙ ap (λ h. h.works q) (edits_holdings m p.work.edits)
 
     -- which stay ready
     pub committed-ready : IsTrue (m.holdings.ready q) → IsTrue ((committed m p).holdings.ready q)
-    committed-ready t = (without-others (with_edits m p.work.edits) p.work.released q stays).ready (subst (λ h. IsTrue (h.ready q)) (sym (edits-holdings m p.work.edits)) t)
+    committed-ready t = (without-others (with_edits m p.work.edits) p.work.released q stays).ready (subst (λ h. IsTrue (h.ready q)) (sym (edits_holdings m p.work.edits)) t)
 
     -- and keep their bytes, unless an edit is of them
     pub committed-bytes : ((e : EditState) → Contains p.work.edits e → e.block ≡ q → ⊥) → (committed m p).bytes q ≡ m.bytes q

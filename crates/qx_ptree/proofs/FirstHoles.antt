@@ -1,9 +1,9 @@
 -- The least leaf of a node that isn't present, by the pointers on the way to it.
-use Rattle.std.proofs.Common.{◌≡◌, ◌≢◌, ℕ, zero, suc, ◌+◌, ◌*◌, ◌-◌, ◌^◌, ◌/◌, ◌%◌, ◌<◌, ◌≤◌, min, inl, inr, List, [], ◌∷◌, length, refl, sym, ◌∙◌, ap, subst, arith}
-use Rattle.std.specs.Prelude.{Bool, true, false, ◌||◌, ◌==◌, nat_le, nat_lt, if◌then◌else◌, Contains, slice_index, slice_index_or, Option, Some, None, is_some, IfSome, IsTrue}
+use Rattle.std.proofs.Common.{◌≡◌, ◌≢◌, ℕ, zero, suc, ◌+◌, ◌*◌, ◌-◌, ◌^◌, ◌/◌, ◌%◌, ◌<◌, ◌≤◌, min, inl, inr, List, [], length, refl, sym, ◌∙◌, ap, subst, arith}
+use Rattle.std.specs.Prelude.{true, false, ◌==◌, nat_le, nat_lt, if◌then◌else◌, Contains, slice_index, slice_index_or, Option, Some, None, is_some, IfSome, IsTrue}
 use Rattle.std.proofs.Math.Nat.{mul-le-mul_right, mul_assoc, mul_comm, one-le-pow, pow-suc, pow-zero}
 use Rattle.std.proofs.Math.Numerals.{sub-one}
-use Rattle.std.proofs.lemmas.Bool.{cases_eq, cases_lt, leb-false, lt-leb, lt-ltb, ne_eqb}
+use Rattle.std.proofs.lemmas.Bool.{cases_eq, cases_lt, lt-leb, lt-ltb, ne_eqb}
 use Rattle.std.proofs.lemmas.List.{get_or_default}
 use Rattle.std.proofs.lemmas.Nat.{div-mul-add}
 use Rattle.qx_fields.specs.declared.order.Order.{Order}
@@ -12,12 +12,12 @@ use Rattle.qx_geom.specs.Lists.{is_in, parts_below}
 use Rattle.qx_geom.specs.Pointer.{absent, per_block}
 use Rattle.qx_geom.proofs.ImagesAndFilters.{Contains-in, in_Contains}
 use Rattle.qx_geom.proofs.LevelCounts.{ceil_div-is}
-use Rattle.qx_geom.proofs.Members.{Contains-cases, Contains-cons, Contains-head, Contains-parts, parts-Contains}
+use Rattle.qx_geom.proofs.Members.{Contains-parts, parts-Contains}
 use Rattle.qx_geom.proofs.Truths.{not_so}
 use Rattle.qx_nodes.specs.BlockMap.{BlockMap, word}
 use Rattle.qx_nodes.specs.Leaves.{leaves_below}
 use Rattle.qx_nodes.specs.Visits.{Visit, present_of, visits_of, visits_under}
-use Rattle.qx_nodes.proofs.MetLeaves.{leaf_member, leaf_visit}
+use Rattle.qx_nodes.proofs.MetLeaves.{leaf_member, leaf_visit, under_low}
 use Rattle.qx_blocks.specs.BlockState.{BlockState, IsConsistent}
 use Rattle.qx_ptree.specs.Holes.{HasEach, IsLeastLack, StandsAt}
 use Rattle.qx_ptree.specs.Trees.{IsWorking, Leads, block_map, pointer_at}
@@ -26,6 +26,7 @@ use Rattle.qx_ptree.proofs.PointersByPosition.{leaf_up, pointer_step, pointer_to
 use Rattle.qx_ptree.proofs.PresentPositions.{leaf_there}
 use Rattle.qx_ptree.proofs.ReachedLeaves.{present-reached}
 use Rattle.qx_ptree.proofs.WorkingPaths.{works_below}
+use Rattle.qx_ptree.proofs.MetPositions.{top_member, below_member}
 
 -- ---- words on lists
 
@@ -43,29 +44,16 @@ lack_found xs a b c d i each lack = (each_join xs a b i each lack.0, lack.1)
 
 -- ---- what is met below the size
 
--- the pointer itself is met
-top_met : (a z : Bool) (top : Visit) (rest : List Visit) → a ≡ false → z ≡ false → Contains (if a || z then [] else top ∷ rest) top
-top_met true z top rest there low = absurd (cc)
-top_met false true top rest there low = absurd (cc)
-top_met false false top rest there low = Contains-head top rest
-
--- and what is met below it
-below_met : (a z c : Bool) (top v : Visit) (xs : List Visit) → a ≡ false → z ≡ false → c ≡ true → Contains xs v → Contains (if a || z then [] else top ∷ (if c then xs else [])) v
-below_met true z c top v xs there low held h = absurd (cc)
-below_met false true c top v xs there low held h = absurd (cc)
-below_met false false true top v xs there low held h = Contains-cons top v xs h
-below_met false false false top v xs there low held h = absurd (cc)
-
 -- a pointer below the size that is there is met in the node
 pub stands_met : (m : BlockMap) (node : Root) (l index p : ℕ) → StandsAt m node l index p → p ≢ absent → index * per_block m.size ^ l < leaves_below m node
     → Contains (visits_of m node) (record { level = l; index = index; block = p })
 stands_met m node zero index p at there below =
     let v : Visit = record { level = zero; index = index; block = p } in
     let one : index * per_block m.size ^ zero ≡ index = rw (pow-zero (per_block m.size)) (omega arith) in
-    at.met v (top_met (p == absent) (nat_le (leaves_below m node) index) v [] (ne_eqb p absent there) (lt-leb _ _ (subst (λ k. k < leaves_below m node) one below)))
+    at.met v (top_member (p == absent) (nat_le (leaves_below m node) index) v [] (ne_eqb p absent there) (lt-leb _ _ (subst (λ k. k < leaves_below m node) one below)))
 stands_met m node (suc l) index p at there below =
     let v : Visit = record { level = suc l; index = index; block = p } in
-    at.met v (top_met (p == absent) (nat_le (leaves_below m node) (index * per_block m.size ^ suc l)) v _ (ne_eqb p absent there) (lt-leb _ _ below))
+    at.met v (top_member (p == absent) (nat_le (leaves_below m node) (index * per_block m.size ^ suc l)) v _ (ne_eqb p absent there) (lt-leb _ _ below))
 
 -- so its leaf, where it leads to one, is present
 pub stands_present : (m : BlockMap) (node : Root) (l index p : ℕ) → l ≡ 0 → StandsAt m node l index p → p ≢ absent → index * per_block m.size ^ l < leaves_below m node
@@ -92,7 +80,7 @@ stands_below m node (suc l) index p w above at there below held low =
     rw sub-one (record {
       within = omega (arith, at.within);
       pointer = is ∙ ap (λ q. if q == absent then absent else word m q w) at.pointer ∙ sym (pointer_step m node l index w at.within low);
-      met = λ v c. at.met v (below_met (p == absent) (nat_le last (index * P ^ suc l)) (nat_lt p m.count) top v (parts_below P part) (ne_eqb p absent there) (lt-leb _ _ below) (lt-ltb p m.count held) (Contains-parts P part w v low c));
+      met = λ v c. at.met v (below_member (p == absent) (nat_le last (index * P ^ suc l)) (nat_lt p m.count) top v (parts_below P part) (ne_eqb p absent there) (lt-leb _ _ below) (lt-ltb p m.count held) (Contains-parts P part w v low c));
     })
 
 -- ---- what isn't there
@@ -105,29 +93,6 @@ absent_lacks m node l index p words at none =
     let up : index * span / span ≡ index = ap (λ k. k / span) (sym whole) ∙ div-mul-add index span 0 (one-le-pow l (per_block m.size) words) in
     not_so (is_in (present_of m node) (index * span)) (λ t.
     leaf_up m node l (index * span) words at.within (leaf_there m node (index * span) t) (ap (λ k. pointer_at m node l k) up ∙ sym at.pointer ∙ none))
-
--- a leaf that is met, whatever the tests say
-leaf_low : (a : Bool) (last : ℕ) (z : Bool) (top v : Visit) → z ≡ nat_le last top.index → Contains (if a || z then [] else top ∷ []) v → v.index < last
-leaf_low true last z top v is c = absurd (omega (arith, c.1))
-leaf_low false last true top v is c = absurd (omega (arith, c.1))
-leaf_low false last false top v is c = elim (Contains-cases top v [] c) [ inl same ↦ subst (λ (x : Visit). x.index < last) same (leb-false last top.index (sym is)) | inr none ↦ absurd (omega (arith, none.1)) ]
-
--- or one below a block
-block_low : (a z k : Bool) (top v : Visit) (xs : List Visit) → top.level ≢ v.level → Contains (if a || z then [] else top ∷ (if k then xs else [])) v → Contains xs v
-block_low true z k top v xs apart c = absurd (omega (arith, c.1))
-block_low false true k top v xs apart c = absurd (omega (arith, c.1))
-block_low false false true top v xs apart c = elim (Contains-cases top v xs c) [ inl is ↦ absurd (apart (ap (λ (z : Visit). z.level) is)) | inr there ↦ there ]
-block_low false false false top v xs apart c = elim (Contains-cases top v [] c) [ inl is ↦ absurd (apart (ap (λ (z : Visit). z.level) is)) | inr none ↦ absurd (omega (arith, none.1)) ]
-
--- a leaf that is met below a pointer lies below the size
-under_low : (m : BlockMap) (last l index p : ℕ) (v : Visit) → Contains (visits_under m last l index p) v → v.level ≡ 0 → v.index < last
-under_low m last zero index p v c none = leaf_low (p == absent) last (nat_le last index) (record { level = zero; index = index; block = p }) v refl c
-under_low m last (suc l) index p v c none =
-    let P : ℕ = per_block m.size in
-    let part : ℕ → List Visit = λ w. visits_under m last l (index * P + w) (word m p w) in
-    let there : Contains (parts_below P part) v = block_low (p == absent) (nat_le last (index * P ^ suc l)) (nat_lt p m.count) (record { level = suc l; index = index; block = p }) v (parts_below P part) (λ e. omega (arith, e, none)) c in
-    let from : (w : ℕ) × (w < P) × Contains (part w) v = parts-Contains P part v there in
-    under_low m last l (index * P + from.0) (word m p from.0) v from.2 none
 
 -- so present leaves lie below the size
 pub present_low : (m : BlockMap) (node : Root) (i : ℕ) → is_in (present_of m node) i ≡ true → i < leaves_below m node

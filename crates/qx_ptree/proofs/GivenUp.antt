@@ -1,14 +1,14 @@
 -- Blocks that were taken and are given back.
 use Rattle.std.proofs.Common.{◌≡◌, ℕ, inl, inr, [], ◌∷◌, List, sym, ◌∙◌, ap, subst, arith}
 use Rattle.std.specs.Prelude.{true, false, ◌||◌, if◌then◌else◌}
-use Rattle.std.proofs.lemmas.Bool.{or_cases}
+use Rattle.std.proofs.lemmas.Bool.{or_cases, or_right, or_left}
 use Rattle.qx_geom.specs.Lists.{is_in}
 use Rattle.qx_geom.proofs.Truths.{true_or_false}
 use Rattle.qx_geom.proofs.Members.{in_head, in_tail}
 use Rattle.qx_blocks.specs.BlockState.{BlockState, with_free, with_shared, without}
 use Rattle.qx_ptree.specs.Takings.{Takes}
 use Rattle.qx_ptree.specs.WorkState.{given_up, without_all}
-use Rattle.qx_ptree.proofs.ListedBlocks.{either_left, either_right, first_once, one_less, put-other}
+use Rattle.qx_ptree.proofs.ListedBlocks.{first_once, one_less, put-other}
 
 -- a block that the working tree alone holds gets free
 pub given_up-private : (m : BlockState) (b : ℕ) → m.holdings.works b ≡ true → m.holdings.private b ≡ true → given_up m b ≡ with_free m b
@@ -46,14 +46,14 @@ Takes-freed b fresh m n f = record {
 
   grown : (q : ℕ) → (m.holdings.ready q || is_in fresh q) ≡ true → (m.holdings.ready q || is_in (b ∷ fresh) q) ≡ true
   grown q t = elim (or_cases (m.holdings.ready q) (is_in fresh q) t) [
-    | inl r ↦ either_left (m.holdings.ready q) (is_in (b ∷ fresh) q) r
-    | inr in' ↦ either_right (m.holdings.ready q) (is_in (b ∷ fresh) q) (in_tail b q fresh in')
+    | inl r ↦ or_left (m.holdings.ready q) (is_in (b ∷ fresh) q) r
+    | inr in' ↦ or_right (m.holdings.ready q) (is_in (b ∷ fresh) q) (in_tail b q fresh in')
   ]
 
 -- the blocks that were taken are given back
 pub Takes-without_all : (fresh : List ℕ) (m n : BlockState) → Takes fresh m n → Takes [] m (without_all n fresh)
 Takes-without_all [] m n f = f
 Takes-without_all (b ∷ fresh) m n f =
-    let works : n.holdings.works b ≡ true = f.works b ∙ either_right (m.holdings.works b) (is_in (b ∷ fresh) b) (in_head b fresh) in
-    let private : n.holdings.private b ≡ true = f.private b ∙ either_right (m.holdings.private b) (is_in (b ∷ fresh) b) (in_head b fresh) in
+    let works : n.holdings.works b ≡ true = f.works b ∙ or_right (m.holdings.works b) (is_in (b ∷ fresh) b) (in_head b fresh) in
+    let private : n.holdings.private b ≡ true = f.private b ∙ or_right (m.holdings.private b) (is_in (b ∷ fresh) b) (in_head b fresh) in
     Takes-without_all fresh m (given_up n b) (subst (Takes fresh m) (sym (given_up-private n b works private)) (Takes-freed b fresh m n f))

@@ -8,7 +8,7 @@ use Rattle.std.proofs.lemmas.List.Folds.{list_any-append}
 use Rattle.qx_geom.proofs.Members.{in_cases, in_tail}
 use Rattle.qx_geom.proofs.ImagesAndFilters.{in_head_as}
 use Rattle.qx_geom.proofs.PresentLeaves.{present_after_ascends, present_after_members}
-use Rattle.qx_geom.proofs.Truths.{not_so, true_or_false}
+use Rattle.qx_geom.proofs.Truths.{not_so, true_or_false, same_truth}
 use Rattle.qx_geom.specs.Lists.{IsAscending, is_in}
 use Rattle.qx_geom.specs.Pointer.{ceil_div}
 use Rattle.qx_geom.specs.Positions.{Shape, has_position, is_named, shape_after}
@@ -18,7 +18,7 @@ use Rattle.qx_ptree.specs.declared.change.Fate.TheVariants.{Stays, Written, Goes
 use Rattle.qx_ptree.specs.Alterations.{Alteration}
 use Rattle.qx_ptree.specs.Fates.{fate_of, is_gone, is_written, leaves_after, written_by}
 use Rattle.qx_ptree.specs.Parts.{fresh_below, has_below, leaf_part, own_need, part_of}
-use Rattle.qx_ptree.proofs.OwnPositions.{below-leaf, had-below, in_filter-is, same_truth}
+use Rattle.qx_ptree.proofs.OwnPositions.{below-leaf, had-below, in_filter-is}
 use Rattle.qx_ptree.proofs.PartsOfBlocks.{fresh-leaf}
 
 -- the shape of a node after a change
@@ -58,7 +58,7 @@ in_written-is c i = list_any-append (λ y. nat_eq y i) (range_with_len c.first c
 -- ---- present leaves
 
 -- the number is named
-named-is : (o : Option ℕ) (i : ℕ) → is_named o i ≡ true → o ≡ Some i
+pub named-is : (o : Option ℕ) (i : ℕ) → is_named o i ≡ true → o ≡ Some i
 named-is None i h = absurd (cc)
 named-is (Some y) i h = ap Some (sym (eqb-true i y h))
 

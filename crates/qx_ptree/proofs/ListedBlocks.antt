@@ -1,26 +1,13 @@
 -- Functions of block numbers that differ at listed ones.
-use Rattle.std.proofs.Common.{◌≡◌, ℕ, inl, inr, [], ◌∷◌, ◌++◌, List, refl, sym, ◌∙◌, ap}
+use Rattle.std.proofs.Common.{◌≡◌, ℕ, inl, inr, [], ◌∷◌, ◌++◌, List, sym, ◌∙◌, ap}
 use Rattle.std.specs.Prelude.{Bool, true, false, ◌||◌, nat_eq, if◌then◌else◌}
 use Rattle.std.proofs.Math.Bool.{or-false, or_assoc}
-use Rattle.std.proofs.lemmas.Bool.{cases_eq, eq-eqb, ne_eqb}
-use Rattle.std.proofs.lemmas.List.Folds.{list_any-append}
+use Rattle.std.proofs.lemmas.Bool.{cases_eq, eq-eqb, ne_eqb, or_right, or_left}
 use Rattle.qx_geom.specs.Lists.{Distinct, is_in}
 use Rattle.qx_geom.proofs.Truths.{not_so, true_or_false}
 use Rattle.qx_geom.proofs.ImagesAndFilters.{Contains-in}
+use Rattle.qx_geom.proofs.Members.{is_in-append}
 use Rattle.qx_blocks.specs.BlockState.{put}
-
--- the first holds, so one of both does
-pub either_left : (a b : Bool) → a ≡ true → (a || b) ≡ true
-either_left a b h = ap (λ t. t || b) h
-
--- the second holds, so one of both does
-pub either_right : (a b : Bool) → b ≡ true → (a || b) ≡ true
-either_right true b h = refl
-either_right false b h = h
-
--- what is in two lists end to end is in one of them
-pub is_in-append : (xs ys : List ℕ) (b : ℕ) → is_in (xs ++ ys) b ≡ (is_in xs b || is_in ys b)
-is_in-append xs ys b = list_any-append (λ y. nat_eq y b) xs ys
 
 -- a number that isn't in a list isn't one that is
 pub differs : (bs : List ℕ) (b q : ℕ) → is_in bs b ≡ true → is_in bs q ≡ false → q ≡ b → ⊥
@@ -42,7 +29,7 @@ put-at f b q x is = ap (λ t. if t then x else f q) (eq-eqb q b is)
 pub put-or : (f : ℕ → Bool) (b q : ℕ) → put f b true q ≡ (f q || is_in (b ∷ []) q)
 put-or f b q =
     elim (cases_eq q b) [
-      | inl same ↦ put-at f b q true same ∙ sym (either_right (f q) (is_in (b ∷ []) q) (either_left (nat_eq b q) false (eq-eqb b q (sym same))))
+      | inl same ↦ put-at f b q true same ∙ sym (or_right (f q) (is_in (b ∷ []) q) (or_left (nat_eq b q) false (eq-eqb b q (sym same))))
       | inr other ↦ put-other f b q true other ∙ sym (or-false (f q)) ∙ ap (λ t. f q || (t || false)) (sym (ne_eqb b q (λ e. other (sym e))))
     ]
 

@@ -30,13 +30,13 @@ some_met false false true top v xs h = (refl, Contains-cases top v xs h)
 some_met false false false top v xs h = (refl, elim (Contains-cases top v [] h) [ inl is ↦ inl is | inr none ↦ absurd (omega (arith, none.1)) ])
 
 -- the pointer itself is met
-top_member : (a z : Bool) (top : Visit) (rest : List Visit) → a ≡ false → z ≡ false → Contains (if a || z then [] else top ∷ rest) top
+pub top_member : (a z : Bool) (top : Visit) (rest : List Visit) → a ≡ false → z ≡ false → Contains (if a || z then [] else top ∷ rest) top
 top_member true z top rest there low = absurd (cc)
 top_member false true top rest there low = absurd (cc)
 top_member false false top rest there low = Contains-head top rest
 
 -- and what is met below it
-below_member : (a z c : Bool) (top v : Visit) (xs : List Visit) → a ≡ false → z ≡ false → c ≡ true → Contains xs v → Contains (if a || z then [] else top ∷ (if c then xs else [])) v
+pub below_member : (a z c : Bool) (top v : Visit) (xs : List Visit) → a ≡ false → z ≡ false → c ≡ true → Contains xs v → Contains (if a || z then [] else top ∷ (if c then xs else [])) v
 below_member true z c top v xs there low held h = absurd (cc)
 below_member false true c top v xs there low held h = absurd (cc)
 below_member false false true top v xs there low held h = Contains-cons top v xs h

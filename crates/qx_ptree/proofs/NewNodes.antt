@@ -1,17 +1,18 @@
 -- The node that a prepared change makes, once its bytes have come about: its present leaves, its blocks, and that it is as this project writes nodes.
-use Rattle.std.proofs.Common.{◌≡◌, ◌≢◌, ℕ, zero, suc, ◌+◌, ◌*◌, ◌/◌, ◌^◌, ◌<◌, ◌≤◌, inl, inr, List, [], ◌∷◌, refl, sym, ◌∙◌, ap, subst, arith}
+use Rattle.std.proofs.Common.{◌≡◌, ◌≢◌, ℕ, zero, suc, ◌+◌, ◌*◌, ◌/◌, ◌^◌, ◌<◌, ◌≤◌, List, [], ◌∷◌, refl, sym, ◌∙◌, ap, subst, arith}
 use Rattle.std.specs.Prelude.{Bool, true, false, not, ◌&&◌, ◌||◌, ◌==◌, nat_le, if◌then◌else◌, Contains, map, slice_index_or}
 use Rattle.std.specs.List.{list_any, range_with_len}
 use Rattle.std.proofs.lemmas.Bool.{eq-eqb, lt-leb}
 use Rattle.qx_geom.specs.declared.root.Root.{Root}
 use Rattle.qx_geom.specs.Layout.{levels_for}
-use Rattle.qx_geom.specs.Lists.{IsAscending, each_below, is_in}
+use Rattle.qx_geom.specs.Lists.{each_below, is_in}
 use Rattle.qx_geom.specs.Pointer.{absent, ceil_div, per_block}
 use Rattle.qx_geom.specs.Positions.{HasPosition, has_position, index_above}
 use Rattle.qx_geom.proofs.ImagesAndFilters.{Contains-in, in_Contains}
-use Rattle.qx_geom.proofs.LeastTouch.{has_above, leaf_below}
-use Rattle.qx_geom.proofs.Members.{Contains-cases, Contains-cons, Contains-head}
+use Rattle.qx_geom.proofs.LeastTouch.{has_above, leaf_below, above_leaf}
+use Rattle.qx_geom.proofs.Members.{Contains-cons, Contains-head, Contains-any}
 use Rattle.qx_geom.proofs.Truths.{true_or_false}
+use Rattle.qx_geom.proofs.AscendingLists.{ascending_same}
 use Rattle.qx_nodes.specs.BlockMap.{BlockMap, word}
 use Rattle.qx_nodes.specs.Content.{bytes_at_leaf, leaf_bytes}
 use Rattle.qx_nodes.specs.ForeignNodes.{has_bare_block, has_leaf_below, has_strays, is_foreign_node, is_stray_under}
@@ -30,7 +31,6 @@ use Rattle.qx_ptree.proofs.BuiltNodes.{IsBuilt, map_with, old-held, old-visit, o
 use Rattle.qx_ptree.proofs.LeafParts.{new-ascends}
 use Rattle.qx_ptree.proofs.MetPositions.{IsAt, IsMetWhole, pointer_met, visit_at}
 use Rattle.qx_ptree.proofs.NewPositions.{new-apart, new-leads, new-number, new-there}
-use Rattle.qx_ptree.proofs.OwnPositions.{above-leaf}
 use Rattle.qx_ptree.proofs.PointerCounts.{words_positive}
 use Rattle.qx_ptree.proofs.PointersByPosition.{pointer_step, pointer_top}
 use Rattle.qx_ptree.proofs.WholeNeed.{new-below}
@@ -49,35 +49,6 @@ none_passes test n none = go 0 n (λ k low high. none k (omega arith))
 no_member_passes : {A : Type 0} (test : A → Bool) (xs : List A) → ((x : A) → Contains xs x → test x ≡ false) → list_any test xs ≡ false
 no_member_passes test [] none = refl
 no_member_passes test (x ∷ xs) none = λ i. none x (Contains-head x xs) i || no_member_passes test xs (λ y c. none y (Contains-cons x y xs c)) i
-
--- a test that a member passes passes somewhere
-member_passes : {A : Type 0} (test : A → Bool) (xs : List A) (x : A) → Contains xs x → test x ≡ true → list_any test xs ≡ true
-member_passes test [] x c t = absurd (omega (arith, c.1))
-member_passes test (y ∷ ys) x c t = elim (Contains-cases y x ys c) [
-  | inl is ↦ ap (λ b. b || list_any test ys) (ap test is ∙ t)
-  | inr later ↦ go (test y) (member_passes test ys x later t)
-]
-  where
-    go : (b : Bool) → list_any test ys ≡ true → (b || list_any test ys) ≡ true
-    go true h = refl
-    go false h = h
-
--- ascending lists with the same members are the same
-same_members : (xs ys : List ℕ) → IsAscending xs → IsAscending ys → ((x : ℕ) → Contains xs x → Contains ys x) → ((x : ℕ) → Contains ys x → Contains xs x) → xs ≡ ys
-same_members [] [] a b to from = refl
-same_members [] (y ∷ ys) a b to from = absurd (let c : Contains [] y = from y (Contains-head y ys) in omega (arith, c.1))
-same_members (x ∷ xs) [] a b to from = absurd (let c : Contains [] x = to x (Contains-head x xs) in omega (arith, c.1))
-same_members (x ∷ xs) (y ∷ ys) a b to from =
-    let low : y ≤ x = least y x ys b.0 (to x (Contains-head x xs)) in
-    let high : x ≤ y = least x y xs a.0 (from y (Contains-head y ys)) in
-    let same : x ≡ y = omega arith in
-    λ i. same i ∷ same_members xs ys a.1 b.1 (λ z c. later y z ys (to z (Contains-cons x z xs c)) (let h : x < z = a.0 z c in omega arith)) (λ z c. later x z xs (from z (Contains-cons y z ys c)) (let h : y < z = b.0 z c in omega arith)) i
-  where
-    least : (h z : ℕ) (zs : List ℕ) → ((w : ℕ) → Contains zs w → h < w) → Contains (h ∷ zs) z → h ≤ z
-    least h z zs above c = elim (Contains-cases h z zs c) [ inl is ↦ omega arith | inr there ↦ let lt : h < z = above z there in omega arith ]
-
-    later : (h z : ℕ) (zs : List ℕ) → Contains (h ∷ zs) z → h < z → Contains zs z
-    later h z zs c lt = elim (Contains-cases h z zs c) [ inl is ↦ absurd (omega arith) | inr there ↦ there ]
 
 -- ---- the new node
 
@@ -102,11 +73,11 @@ module _ (m n : BlockState) (plan : Plan) (root : Root) (outside : List ℕ) (re
   pub new-leaf : (i : ℕ) → has_position m.holdings.size (alteration_in plan m).new 0 i ≡ true → is_in (alteration_in plan m).new.present i ≡ true
   new-leaf i there =
       let l : (0 ≤ (alteration_in plan m).new.levels) × ((x : ℕ) × (is_in (alteration_in plan m).new.present x ≡ true) × (index_above m.holdings.size 0 x ≡ i)) = leaf_below m.holdings.size (alteration_in plan m).new 0 i there in
-      subst (λ x. is_in (alteration_in plan m).new.present x ≡ true) (sym (above-leaf m.holdings.size l.1.0) ∙ l.1.2) l.1.1
+      subst (λ x. is_in (alteration_in plan m).new.present x ≡ true) (sym (above_leaf m.holdings.size l.1.0) ∙ l.1.2) l.1.1
 
   -- and a present leaf is one of it
   pub leaf-there : (i : ℕ) → is_in (alteration_in plan m).new.present i ≡ true → has_position m.holdings.size (alteration_in plan m).new 0 i ≡ true
-  leaf-there i there = subst (λ x. HasPosition m.holdings.size (alteration_in plan m).new 0 x) (above-leaf m.holdings.size i) (has_above m.holdings.size (alteration_in plan m).new 0 i (omega arith) there)
+  leaf-there i there = subst (λ x. HasPosition m.holdings.size (alteration_in plan m).new 0 x) (above_leaf m.holdings.size i) (has_above m.holdings.size (alteration_in plan m).new 0 i (omega arith) there)
 
   -- ---- no strays
 
@@ -173,7 +144,7 @@ module _ (m n : BlockState) (plan : Plan) (root : Root) (outside : List ℕ) (re
   pub new-present : present_of (map_with m plan bytes) root ≡ (alteration_in plan m).new.present
   new-present =
       let t : BlockMap = map_with m plan bytes in
-      same_members (present_of t root) (alteration_in plan m).new.present (present_ascends t root words)
+      ascending_same (present_of t root) (alteration_in plan m).new.present (present_ascends t root words)
       (new-ascends m.holdings.size (shape_in (block_map plan.order m) plan.node) plan.change (present_ascends (block_map plan.order m) plan.node words)) to from
     where
       to : (i : ℕ) → Contains (present_of (map_with m plan bytes) root) i → Contains (alteration_in plan m).new.present i
@@ -198,7 +169,7 @@ module _ (m n : BlockState) (plan : Plan) (root : Root) (outside : List ℕ) (re
       leaf_below m.holdings.size (alteration_in plan m).new v.level v.index (visit-there v c).1 in
       let i : ℕ = l.1.0 in
       let u : Visit = record { level = 0; index = i; block = pointer_at t root 0 i } in
-      member_passes (λ (x : Visit). (x.level == 0) && (x.index / P ^ v.level == v.index)) (visits_of t root) u (new-visit 0 i (omega arith) (leaf-there i l.1.1)) (eq-eqb (i / P ^ v.level) v.index l.1.2)
+      Contains-any (λ (x : Visit). (x.level == 0) && (x.index / P ^ v.level == v.index)) (visits_of t root) u (new-visit 0 i (omega arith) (leaf-there i l.1.1)) (eq-eqb (i / P ^ v.level) v.index l.1.2)
 
   -- so no pointer block is bare
   new-bare : has_bare_block (map_with m plan bytes) root ≡ false

@@ -29,7 +29,7 @@ down-absent m zero j = refl
 down-absent m (suc d) j = ap (λ p. if p == absent then absent else word m p (j % per_block m.size)) (down-absent m d (j / per_block m.size))
 
 -- a pointer is found from the node's own above it
-from-down : (m : BlockMap) (node : Root) (d j : ℕ) → pointer_from m node d j ≡ pointer_down m d (slice_index_or node.pointers (j / per_block m.size ^ d) absent) j
+pub from-down : (m : BlockMap) (node : Root) (d j : ℕ) → pointer_from m node d j ≡ pointer_down m d (slice_index_or node.pointers (j / per_block m.size ^ d) absent) j
 from-down m node zero j = ap (λ x. slice_index_or node.pointers x absent) (sym (by_one j (per_block m.size)))
 from-down m node (suc d) j =
     let P : ℕ = per_block m.size in

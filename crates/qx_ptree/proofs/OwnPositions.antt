@@ -1,15 +1,14 @@
 -- A position of a level: whether it is there, by the leaves below it, and whether it takes a fresh block.
-use Rattle.std.proofs.Common.{◌≡◌, ℕ, suc, ◌+◌, ◌*◌, ◌/◌, ◌^◌, ◌<◌, ◌≤◌, inl, inr, List, [], ◌∷◌, refl, sym, ◌∙◌, ap, subst, arith}
+use Rattle.std.proofs.Common.{◌≡◌, ℕ, suc, ◌+◌, ◌*◌, ◌<◌, ◌≤◌, inl, inr, List, [], ◌∷◌, refl, sym, ◌∙◌, ap, subst, arith}
 use Rattle.std.specs.Prelude.{Bool, true, false, not, ◌&&◌, ◌||◌, ◌==◌, if◌then◌else◌, count_by, filter, map}
 use Rattle.std.specs.List.{list_any}
-use Rattle.std.proofs.Math.Nat.{div-div-eq-div-mul, div-one, pow-suc, pow-zero}
 use Rattle.std.proofs.lemmas.Bool.{cases_lt, eqb-true, le-ltb, lt-leb}
 use Rattle.std.proofs.lemmas.List.Sums.{sum_by-cons}
 use Rattle.qx_geom.proofs.AscendingLists.{level_ascends}
 use Rattle.qx_geom.proofs.ImagesAndFilters.{Contains-in, any_image, filter_in, image_any, in_filter}
-use Rattle.qx_geom.proofs.LeastTouch.{has_above, leaf_below}
+use Rattle.qx_geom.proofs.LeastTouch.{has_above, leaf_below, above_next, above_leaf}
 use Rattle.qx_geom.proofs.PresentLeaves.{filter_ascends}
-use Rattle.qx_geom.proofs.Truths.{and_left, and_right, not_so}
+use Rattle.qx_geom.proofs.Truths.{and_left, and_right, not_so, same_truth}
 use Rattle.qx_geom.specs.Lists.{IsAscending, is_in}
 use Rattle.qx_geom.specs.Pointer.{per_block}
 use Rattle.qx_geom.specs.Positions.{Shape, at_level, each_once, has_position, index_above}
@@ -17,22 +16,6 @@ use Rattle.qx_geom.specs.Touch.{changed_leaves, is_fresh, is_touched}
 use Rattle.qx_ptree.specs.Alterations.{Alteration}
 use Rattle.qx_ptree.specs.Parts.{fresh_positions, has_below, own_need}
 use Rattle.qx_ptree.proofs.SumsBelow.{any_parts, any_up_to, one_if}
-
--- truths that follow from each other are the same
-pub same_truth : (a b : Bool) → (a ≡ true → b ≡ true) → (b ≡ true → a ≡ true) → a ≡ b
-same_truth true b to from = sym (to refl)
-same_truth false true to from = from refl
-same_truth false false to from = refl
-
--- ---- indices
-
--- the index a level higher
-pub above-up : (blocksize k i : ℕ) → index_above blocksize k i / per_block blocksize ≡ index_above blocksize (suc k) i
-above-up blocksize k i = div-div-eq-div-mul i (per_block blocksize ^ k) (per_block blocksize) ∙ ap (λ (n : ℕ). i / n) (sym (pow-suc (per_block blocksize) k))
-
--- a leaf is its own index at level 0
-pub above-leaf : (blocksize i : ℕ) → index_above blocksize 0 i ≡ i
-above-leaf blocksize i = ap (λ (n : ℕ). i / n) (pow-zero (per_block blocksize)) ∙ div-one i
 
 -- ---- which positions there are
 
@@ -53,11 +36,11 @@ had-none blocksize s k j none = elim (cases_lt s.levels k) [ inl lt ↦ had-abov
 
 -- what lies below a block lies below one of those that it points to
 pub below-up : (blocksize : ℕ) (leaves : List ℕ) (k j : ℕ) → 0 < per_block blocksize → has_below blocksize leaves (suc k) j ≡ any_up_to (per_block blocksize) (λ w. has_below blocksize leaves k (j * per_block blocksize + w))
-below-up blocksize leaves k j some = any_parts (index_above blocksize k) (index_above blocksize (suc k)) (per_block blocksize) j leaves some (above-up blocksize k)
+below-up blocksize leaves k j some = any_parts (index_above blocksize k) (index_above blocksize (suc k)) (per_block blocksize) j leaves some (above_next blocksize k)
 
 -- below a leaf lies the leaf alone
 pub below-leaf : (blocksize : ℕ) (leaves : List ℕ) (i : ℕ) → has_below blocksize leaves 0 i ≡ is_in leaves i
-below-leaf blocksize leaves i = λ t. list_any (λ x. above-leaf blocksize x t == i) leaves
+below-leaf blocksize leaves i = λ t. list_any (λ x. above_leaf blocksize x t == i) leaves
 
 -- ---- fresh positions
 

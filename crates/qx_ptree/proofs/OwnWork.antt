@@ -2,6 +2,7 @@
 use Rattle.std.proofs.Common.{◌≡◌, ◌≢◌, ℕ, ◌<◌, ◌≤◌, inl, inr, List, [], ◌∷◌, length, refl, sym, ◌∙◌, ap, arith}
 use Rattle.std.specs.Prelude.{Bool, true, false, not, ◌&&◌, ◌||◌, if◌then◌else◌, Contains}
 use Rattle.std.proofs.lemmas.Bool.{cases_lt, eq-eqb, le-ltb}
+use Rattle.std.proofs.Math.Bool.{and-false}
 use Rattle.qx_geom.specs.Lists.{is_in}
 use Rattle.qx_geom.specs.Pointer.{absent}
 use Rattle.qx_geom.specs.Positions.{has_position}
@@ -94,11 +95,7 @@ module _ (m n : BlockState) (plan : Plan) (p : IsToldPlan m plan) (k j : ℕ) (w
 
   -- nor what wasn't there
   keeps_new : old ≡ absent → keeps_block a k j ≡ false
-  keeps_new none = (λ i. has_position size a.new k j && not (not (hadnt none i) || (is_touched size a.old a.new a.written k j && not (a.private k j)))) ∙ second (has_position size a.new k j)
-    where
-      second : (b : Bool) → (b && false) ≡ false
-      second true = refl
-      second false = refl
+  keeps_new none = (λ i. has_position size a.new k j && not (not (hadnt none i) || (is_touched size a.old a.new a.written k j && not (a.private k j)))) ∙ and-false (has_position size a.new k j)
 
   -- what isn't touched takes no fresh block
   plain_stays : old ≢ absent → changed ≡ false → takes_fresh a k j ≡ false
@@ -106,11 +103,7 @@ module _ (m n : BlockState) (plan : Plan) (p : IsToldPlan m plan) (k j : ℕ) (w
 
   -- nor what is private
   private_stays : old ≢ absent → m.holdings.private old ≡ true → takes_fresh a k j ≡ false
-  private_stays there own = (λ i. not (had there i) || (is_touched size a.old a.new a.written k j && not (own i))) ∙ second (is_touched size a.old a.new a.written k j)
-    where
-      second : (b : Bool) → (b && false) ≡ false
-      second true = refl
-      second false = refl
+  private_stays there own = (λ i. not (had there i) || (is_touched size a.old a.new a.written k j && not (own i))) ∙ and-false (is_touched size a.old a.new a.written k j)
 
   -- what is shared and touched does
   shared_moves : old ≢ absent → changed ≡ true → m.holdings.private old ≡ false → takes_fresh a k j ≡ true
@@ -122,11 +115,7 @@ module _ (m n : BlockState) (plan : Plan) (p : IsToldPlan m plan) (k j : ℕ) (w
 
   -- and not where one is
   keeps_not : takes_fresh a k j ≡ true → keeps_block a k j ≡ false
-  keeps_not fresh = (λ i. has_position size a.new k j && not (fresh i)) ∙ second (has_position size a.new k j)
-    where
-      second : (b : Bool) → (b && false) ≡ false
-      second true = refl
-      second false = refl
+  keeps_not fresh = (λ i. has_position size a.new k j && not (fresh i)) ∙ and-false (has_position size a.new k j)
 
   -- so it is lost
   loses_it : keeps_block a k j ≡ false → loses_block a k j ≡ true

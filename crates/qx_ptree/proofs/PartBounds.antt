@@ -9,12 +9,9 @@ use Rattle.qx_ptree.specs.declared.change.Fate.{Fate}
 use Rattle.qx_ptree.specs.declared.change.Fate.TheVariants.{Stays, Written, Goes}
 use Rattle.qx_ptree.specs.Parts.{leaf_part}
 use Rattle.qx_ptree.specs.Plans.{InReach}
+use Rattle.qx_ptree.proofs.PointerCounts.{words_bounds}
 
 -- ---- block sizes
-
--- how many pointers a block has
-pub words-bounds : (b : ℕ) → IsBlockSize b → (128 ≤ per_block b) × (per_block b ≤ 1024)
-words-bounds b sized = omega arith
 
 -- a level's power, by the one below
 power-down : (P level : ℕ) → 0 < level → P ^ level ≡ P ^ (level - 1) * P
@@ -23,12 +20,12 @@ power-down P (suc l) above = rw (sub-one, pow-suc P l) refl
 
 -- the leaves below a block are some
 pub power-some : (b level : ℕ) → IsBlockSize b → 1 ≤ per_block b ^ level
-power-some b level sized = let bounds = words-bounds b sized in one-le-pow level (per_block b) (omega arith)
+power-some b level sized = let bounds = words_bounds b sized in one-le-pow level (per_block b) (omega arith)
 
 -- and up to 5 levels above the leaves they are few
 pub power-few : (b level : ℕ) → IsBlockSize b → level ≤ 5 → per_block b ^ level ≤ 2 ^ 50
 power-few b level sized low =
-    let bounds = words-bounds b sized in
+    let bounds = words_bounds b sized in
     let base : per_block b ^ level ≤ 1024 ^ level = pow-le-pow_left bounds.1 level in
     let most : 1024 ^ level ≤ 1024 ^ 5 = pow-le-pow_right {n = 1024} (lit< tt) {i = level} {j = 5} low in
     omega arith
@@ -85,7 +82,7 @@ few-all b level need w own sized above few all one =
     let few_P : need + P ≤ P * (2 * K) = subst (λ k. need + k ≤ k * (2 * K)) all few in
     let power : P ^ level ≡ K * P = power-down P level above in
     let same : P * (2 * K) ≡ 2 * (K * P) = mul_comm P (2 * K) ∙ mul_assoc 2 K P in
-    omega (arith, (words-bounds b sized).0)
+    omega (arith, (words_bounds b sized).0)
 
 -- so many fit
 pub level-fits : (b level : ℕ) → IsBlockSize b → level ≤ 5 → 2 * per_block b ^ level ≤ 2 ^ 51

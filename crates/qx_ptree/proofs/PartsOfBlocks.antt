@@ -5,10 +5,11 @@ use Rattle.qx_geom.specs.Lists.{IsAscending}
 use Rattle.qx_geom.specs.Pointer.{per_block}
 use Rattle.qx_geom.specs.Positions.{has_position, index_above}
 use Rattle.qx_geom.specs.Touch.{changed_leaves}
+use Rattle.qx_geom.proofs.LeastTouch.{above_next, above_leaf}
 use Rattle.qx_ptree.specs.declared.part.Part.{Part}
 use Rattle.qx_ptree.specs.Alterations.{Alteration}
 use Rattle.qx_ptree.specs.Parts.{beside, fresh_below, fresh_positions, has_below, own_need, part_of, parts_up_to, with_block}
-use Rattle.qx_ptree.proofs.OwnPositions.{above-leaf, above-up, below-up, own-fresh}
+use Rattle.qx_ptree.proofs.OwnPositions.{below-up, own-fresh}
 use Rattle.qx_ptree.proofs.SumsBelow.{any_up_to, count_parts, sum_by-below, sum_up_to, sum_up_to-alike, sum_up_to-more, sum_up_to-turned}
 
 -- ---- parts side by side
@@ -39,13 +40,13 @@ fresh-parted : (a : Alteration) (k j i : ℕ) → 0 < per_block a.blocksize → 
     → count_by (λ x. index_above a.blocksize (suc k - i) x == j) (fresh_positions a i) ≡ sum_up_to (per_block a.blocksize) (λ w. count_by (λ x. index_above a.blocksize (k - i) x == j * per_block a.blocksize + w) (fresh_positions a i))
 fresh-parted a k j i some low =
     ap (λ m. count_by (λ x. index_above a.blocksize m x == j) (fresh_positions a i)) (let e : suc k - i ≡ suc (k - i) = omega arith in e)
-    ∙ sym (count_parts (index_above a.blocksize (k - i)) (index_above a.blocksize (suc (k - i))) (per_block a.blocksize) j (fresh_positions a i) some (above-up a.blocksize (k - i)))
+    ∙ sym (count_parts (index_above a.blocksize (k - i)) (index_above a.blocksize (suc (k - i))) (per_block a.blocksize) j (fresh_positions a i) some (above_next a.blocksize (k - i)))
 
 -- at its own level stands the block alone
 fresh-own : (a : Alteration) (k j : ℕ) → count_by (λ x. index_above a.blocksize (k - k) x == j) (fresh_positions a k) ≡ count_by (λ x. x == j) (fresh_positions a k)
 fresh-own a k j =
     ap (λ m. count_by (λ x. index_above a.blocksize m x == j) (fresh_positions a k)) (let e : k - k ≡ 0 = omega arith in e)
-    ∙ (λ i. count_by (λ x. above-leaf a.blocksize x i == j) (fresh_positions a k))
+    ∙ (λ i. count_by (λ x. above_leaf a.blocksize x i == j) (fresh_positions a k))
 
 -- the fresh blocks from a leaf on
 pub fresh-leaf : (a : Alteration) (i : ℕ) → IsAscending a.new.present

@@ -1,5 +1,5 @@
 -- What the change of a plan makes of the parts of its node.
-use Rattle.std.proofs.Common.{◌≡◌, ◌≢◌, ℕ, ◌<◌, ◌≤◌, ◌⊎◌, inl, inr, sym, ◌∙◌, ap, subst, arith}
+use Rattle.std.proofs.Common.{◌≡◌, ◌≢◌, ℕ, ◌<◌, ◌≤◌, ◌⊎◌, inl, inr, sym, ◌∙◌, ap, arith}
 use Rattle.std.specs.Prelude.{true, false, not, ◌==◌}
 use Rattle.std.specs.Int.{div_ceil}
 use Rattle.std.proofs.lemmas.Bool.{cases_lt}
@@ -15,17 +15,13 @@ use Rattle.qx_ptree.specs.Alterations.{fresh_count}
 use Rattle.qx_ptree.specs.Fates.{leaves_after}
 use Rattle.qx_ptree.specs.Parts.{full_below, has_below, leaf_part, part_of}
 use Rattle.qx_ptree.specs.Plans.{IsPlan, alteration_in, planned_pointer}
-use Rattle.qx_ptree.specs.Trees.{Leads, block_map}
+use Rattle.qx_ptree.specs.Trees.{block_map}
 use Rattle.qx_ptree.proofs.AlikeParts.{AllFare, part-unwritten, part-written}
-use Rattle.qx_ptree.proofs.PlannedPointers.{IsToldPlan, planned_above, planned_below, planned_leads}
+use Rattle.qx_ptree.proofs.PlannedPointers.{IsToldPlan, planned_above, planned_below}
 use Rattle.qx_ptree.proofs.PointerCounts.{size_positive, words_positive}
 use Rattle.qx_ptree.proofs.PointersByPosition.{at_above}
 use Rattle.qx_ptree.proofs.SumsBelow.{sum_up_to}
 use Rattle.qx_ptree.proofs.WholeNeed.{leaves-are, new-reached, whole-need}
-
--- the pointer that is followed is the plan's
-pub followed : (m : BlockState) (plan : Plan) (k j pointer result : ℕ) → IsToldPlan m plan → pointer ≡ planned_pointer plan m k j → (Leads m pointer → result ≡ pointer) → result ≡ planned_pointer plan m k j
-followed m plan k j pointer result known is same = same (subst (Leads m) (sym is) (planned_leads m plan k j known)) ∙ is
 
 -- whether something was below a block is whether its pointer is there, but for the first block above the node's levels
 pub planned-had : (m : BlockState) (plan : Plan) (k j pointer : ℕ) → IsToldPlan m plan → (k ≤ plan.node.levels) ⊎ (j ≢ 0) → pointer ≡ planned_pointer plan m k j

@@ -3,14 +3,14 @@ use Rattle.std.proofs.Common.{◌≡◌, ◌≢◌, ℕ, suc, ◌*◌, ◌^◌, 
 use Rattle.std.specs.Prelude.{Bool, true, false, not, ◌&&◌, ◌||◌, ◌==◌, if◌then◌else◌, Contains, map}
 use Rattle.std.specs.List.{list_any}
 use Rattle.std.proofs.Math.Nat.{div-eq_of_lt, div-lt_iff_lt-mul, mul-le-mul_right, mul_comm, one-le-pow, pow-le-pow_right, pow-suc}
-use Rattle.std.proofs.lemmas.Bool.{cases_lt, eq-eqb, eqb-true, le-leb, lt-leb}
+use Rattle.std.proofs.lemmas.Bool.{cases_lt, eq-eqb, eqb-true, le-leb, lt-leb, not-false}
 use Rattle.qx_geom.specs.declared.root.Root.{Root}
 use Rattle.qx_geom.specs.Lists.{is_in}
 use Rattle.qx_geom.specs.Pointer.{absent, per_block}
 use Rattle.qx_geom.specs.Positions.{each_once, has_position, index_above}
 use Rattle.qx_geom.proofs.ImagesAndFilters.{Contains-in, any_image, each_once_from, each_once_in, image_any, image_in, in_Contains, in_image}
-use Rattle.qx_geom.proofs.Members.{Contains-cases, Contains-cons, Contains-head}
-use Rattle.qx_geom.proofs.Truths.{and_left, and_right, not_so, true_or_false}
+use Rattle.qx_geom.proofs.Members.{Contains-cases, any-Contains}
+use Rattle.qx_geom.proofs.Truths.{and_left, and_right, not_so, true_or_false, same_truth}
 use Rattle.qx_nodes.specs.BlockMap.{BlockMap}
 use Rattle.qx_nodes.specs.ForeignNodes.{has_bare_block, has_leaf_below}
 use Rattle.qx_nodes.specs.Visits.{Visit, present_of, visits_of}
@@ -23,15 +23,6 @@ use Rattle.qx_ptree.proofs.PointersByPosition.{leaf_up, pointer_past}
 
 -- ---- words on lists
 
--- where a test passes in a list, it does at a member
-any_member : {A : Type 0} (test : A → Bool) (xs : List A) → list_any test xs ≡ true → (x : A) × Contains xs x × (test x ≡ true)
-any_member test [] h = absurd (cc)
-any_member {A = A} test (x ∷ xs) h = go (test x) refl h (any_member test xs)
-  where
-    go : (b : Bool) → test x ≡ b → (b || list_any test xs) ≡ true → (list_any test xs ≡ true → (y : A) × Contains xs y × (test y ≡ true)) → (y : A) × Contains (x ∷ xs) y × (test y ≡ true)
-    go true e h more = (x, Contains-head x xs, e)
-    go false e h more = let r : (y : A) × Contains xs y × (test y ≡ true) = more h in (r.0, Contains-cons x r.0 xs r.1, r.2)
-
 -- a test that passes nowhere in a list passes at no member
 none_member : {A : Type 0} (test : A → Bool) (xs : List A) (y : A) → list_any test xs ≡ false → Contains xs y → test y ≡ false
 none_member test [] y h c = absurd (omega (arith, c.1))
@@ -40,12 +31,6 @@ none_member test (x ∷ xs) y h c = go (test x) refl h (none_member test xs y)
     go : (b : Bool) → test x ≡ b → (b || list_any test xs) ≡ false → (list_any test xs ≡ false → Contains xs y → test y ≡ false) → test y ≡ false
     go true e h more = absurd (cc)
     go false e h more = elim (Contains-cases x y xs c) [ inl is ↦ ap test (sym is) ∙ e | inr there ↦ more h there ]
-
--- truths that follow from each other are the same
-same_truth : (a b : Bool) → (a ≡ true → b ≡ true) → (b ≡ true → a ≡ true) → a ≡ b
-same_truth true b f g = sym (f refl)
-same_truth false true f g = g refl
-same_truth false false f g = refl
 
 -- ---- positions, by the leaves below them
 
@@ -74,11 +59,7 @@ below_there m node k j pos h t =
 
 -- no visit is that of a bare block
 leaf_below_visit : (m : BlockMap) (node : Root) (v : Visit) → has_bare_block m node ≡ false → Contains (visits_of m node) v → has_leaf_below m (visits_of m node) v ≡ true
-leaf_below_visit m node v bare c = go (has_leaf_below m (visits_of m node) v) (none_member (λ v. not (has_leaf_below m (visits_of m node) v)) (visits_of m node) v bare c)
-  where
-    go : (b : Bool) → not b ≡ false → b ≡ true
-    go true e = refl
-    go false e = absurd (cc)
+leaf_below_visit m node v bare c = not-false (has_leaf_below m (visits_of m node) v) (none_member (λ v. not (has_leaf_below m (visits_of m node) v)) (visits_of m node) v bare c)
 
 -- so below what is met stands a present leaf
 pub there_below : (m : BlockMap) (node : Root) (k j : ℕ) → IsMetWhole m node → has_bare_block m node ≡ false → k ≤ node.levels → pointer_at m node k j ≢ absent → has_below m.size (present_of m node) k j ≡ true
@@ -86,7 +67,7 @@ there_below m node k j w bare h there =
     let vs : List Visit = visits_of m node in
     let v : Visit = record { level = k; index = j; block = pointer_at m node k j } in
     let test : Visit → Bool = λ u. (u.level == 0) && (u.index / per_block m.size ^ k == j) in
-    let u : (u : Visit) × Contains vs u × (test u ≡ true) = any_member test vs (leaf_below_visit m node v bare (pointer_met m node k j w h there)) in
+    let u : (u : Visit) × Contains vs u × (test u ≡ true) = any-Contains test vs (leaf_below_visit m node v bare (pointer_met m node k j w h there)) in
     let level : u.0.level ≡ 0 = eqb-true u.0.level 0 (and_left (u.0.level == 0) (u.0.index / per_block m.size ^ k == j) u.2) in
     let index : u.0.index / per_block m.size ^ k ≡ j = eqb-true (u.0.index / per_block m.size ^ k) j (and_right (u.0.level == 0) (u.0.index / per_block m.size ^ k == j) u.2) in
     any_image (index_above m.size k) j (present_of m node) u.0.index (in_Contains (present_of m node) u.0.index (leaf_member vs u.0 u.1 level)) index

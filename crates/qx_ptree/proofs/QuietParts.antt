@@ -3,7 +3,7 @@ use Rattle.std.proofs.Common.{◌≡◌, ◌≢◌, ℕ, zero, suc, ◌+◌, ◌
 use Rattle.std.specs.Prelude.{Bool, true, false, not, ◌&&◌, ◌||◌, ◌==◌, if◌then◌else◌}
 use Rattle.std.proofs.Math.Nat.{div-div-eq-div-mul, mod-lt, mul_comm, pow-suc}
 use Rattle.std.proofs.lemmas.Nat.{pow-add}
-use Rattle.std.proofs.lemmas.Bool.{cases_eq, cases_lt, eq-eqb, eqb-true, le-ltb, ne_eqb}
+use Rattle.std.proofs.lemmas.Bool.{cases_eq, cases_lt, eq-eqb, eqb-true, le-ltb, ne_eqb, not-false}
 use Rattle.std.proofs.lemmas.Nat.{div-add-mod'}
 use Rattle.qx_fields.specs.Number.{field}
 use Rattle.qx_geom.specs.Lists.{is_in}
@@ -11,7 +11,7 @@ use Rattle.qx_geom.specs.Pointer.{absent, per_block}
 use Rattle.qx_geom.specs.Positions.{Shape, has_position, index_above}
 use Rattle.qx_geom.specs.Touch.{changed_leaves, is_touched}
 use Rattle.qx_geom.proofs.ImagesAndFilters.{any_image, image_any}
-use Rattle.qx_geom.proofs.Truths.{not_so, true_or_false}
+use Rattle.qx_geom.proofs.Truths.{not_so, true_or_false, same_truth}
 use Rattle.qx_nodes.specs.BlockMap.{BlockMap, with_bytes, word}
 use Rattle.qx_blocks.specs.BlockState.{BlockState}
 use Rattle.qx_ptree.specs.declared.fresh_blocks.Plan.{Plan}
@@ -25,7 +25,7 @@ use Rattle.qx_ptree.specs.WorkState.{no_work}
 use Rattle.qx_ptree.proofs.BuiltRows.{sum_one}
 use Rattle.qx_ptree.proofs.CarriedBuilds.{position_there}
 use Rattle.qx_ptree.proofs.LeafParts.{in_changed-is}
-use Rattle.qx_ptree.proofs.OwnPositions.{had-above, had-below, same_truth}
+use Rattle.qx_ptree.proofs.OwnPositions.{had-above, had-below}
 use Rattle.qx_ptree.proofs.PlannedPointers.{IsToldPlan, planned_above, planned_position}
 use Rattle.qx_ptree.proofs.PointerCounts.{words_positive}
 use Rattle.qx_ptree.proofs.PointersByPosition.{at_above, pointer_step}
@@ -79,11 +79,7 @@ absent_down m (suc d) p j is =
 
 -- what is no pointer's is absent
 pub not_there : (p : ℕ) → not (p == absent) ≡ false → p ≡ absent
-not_there p e = eqb-true p absent (go (p == absent) e)
-  where
-    go : (b : Bool) → not b ≡ false → b ≡ true
-    go true e = refl
-    go false e = absurd (cc)
+not_there p e = eqb-true p absent (not-false (p == absent) e)
 
 -- what is there is none that is absent
 pub is_there : (p : ℕ) → p ≢ absent → not (p == absent) ≡ true

@@ -2,7 +2,7 @@
 use Rattle.std.proofs.Common.{◌≡◌, ◌≢◌, ℕ, zero, suc, ◌+◌, ◌*◌, ◌-◌, ◌^◌, ◌/◌, ◌%◌, ◌<◌, ◌≤◌, inl, inr, List, [], ◌∷◌, length, refl, sym, ◌∙◌, ap, subst, arith}
 use Rattle.std.specs.Prelude.{Bool, true, ◌==◌, if◌then◌else◌, slice_index, slice_range, IsTrue, Contains}
 use Rattle.std.proofs.Math.Nat.{div-div-eq-div-mul, mul_comm, pow-suc}
-use Rattle.std.proofs.lemmas.Bool.{cases_lt, ne_eqb}
+use Rattle.std.proofs.lemmas.Bool.{cases_lt, ne_eqb, or_right}
 use Rattle.std.proofs.lemmas.List.{take_all}
 use Rattle.std.proofs.lemmas.List.Elements.{All-from_get_or}
 use Rattle.std.proofs.lemmas.List.FromFn.{get_or-map-range_with_len}
@@ -22,7 +22,6 @@ use Rattle.qx_ptree.specs.Reaching.{HasEdits, IsOwnPosition, Owns, Reaches, Show
 use Rattle.qx_ptree.specs.Takings.{Takes}
 use Rattle.qx_ptree.specs.Trees.{block_map}
 use Rattle.qx_ptree.specs.WorkState.{EditState, WorkState, and_then, no_work}
-use Rattle.qx_ptree.proofs.ListedBlocks.{either_right}
 use Rattle.qx_ptree.proofs.OwnedPositions.{no_edits, owns_both, owns_later, shows_second}
 use Rattle.qx_ptree.proofs.UnderRows.{far_up, under_own, under_words}
 
@@ -183,6 +182,6 @@ reaches_block_at m n o plan level index p q pointers changed present tops w v ab
 -- a block that was taken is there
 pub taken_there : (f : List ℕ) (m n : BlockState) → IsConsistent n → Takes f m n → (b : ℕ) → is_in f b ≡ true → b ≢ absent
 taken_there f m n s t b h is =
-    let ready : IsTrue (n.holdings.ready b) = t.ready b (either_right (m.holdings.ready b) (is_in f b) h) in
+    let ready : IsTrue (n.holdings.ready b) = t.ready b (or_right (m.holdings.ready b) (is_in f b) h) in
     let low : b < n.holdings.count = s.numbers b (s.works_held b (s.private_works b (s.ready_private b ready))) in
     omega (arith, low, s.count)

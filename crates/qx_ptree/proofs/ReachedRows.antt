@@ -3,6 +3,7 @@ use Rattle.std.proofs.Common.{◌≡◌, ◌≢◌, ℕ, ◌+◌, ◌-◌, ◌^�
 use Rattle.std.specs.Prelude.{true, slice_index}
 use Rattle.std.proofs.Math.Nat.{div-div-eq-div-mul}
 use Rattle.std.proofs.lemmas.Nat.{pow-add}
+use Rattle.std.proofs.lemmas.Bool.{or_right}
 use Rattle.qx_geom.proofs.Members.{in_head}
 use Rattle.qx_geom.specs.Lists.{is_in}
 use Rattle.qx_geom.specs.Pointer.{per_block}
@@ -17,7 +18,6 @@ use Rattle.qx_ptree.specs.ReadyLeaves.{IsAbove, IsWrittenBy}
 use Rattle.qx_ptree.specs.Takings.{Takes}
 use Rattle.qx_ptree.specs.Trees.{block_map}
 use Rattle.qx_ptree.specs.WorkState.{WorkState, and_then, no_work}
-use Rattle.qx_ptree.proofs.ListedBlocks.{either_right}
 use Rattle.qx_ptree.proofs.OwnedPositions.{no_edits, owns_both, owns_fewer, owns_later, owns_none}
 use Rattle.qx_ptree.proofs.UnderRows.{none_under, row_more, under_index, under_own}
 
@@ -53,7 +53,7 @@ reaches_later m n o plan work row tops stay r = owns_later n o work (IsOwnPositi
 
 -- so they do where more blocks are taken
 pub fresh_stay : (f g : List ℕ) (m n o : BlockState) → Takes f m n → Takes g n o → (b : ℕ) → is_in f b ≡ true → o.bytes b ≡ n.bytes b
-fresh_stay f g m n o t u b h = u.ready_bytes b (t.ready b (either_right (m.holdings.ready b) (is_in f b) h))
+fresh_stay f g m n o t u b h = u.ready_bytes b (t.ready b (or_right (m.holdings.ready b) (is_in f b) h))
 
 -- the size and the count of the blocks before are all that counts of them
 pub reaches_sized : (m o n : BlockState) (plan : Plan) (work : WorkState) (row : Row) (tops : ℕ → ℕ) → o.holdings.size ≡ m.holdings.size → o.holdings.count ≡ m.holdings.count → Reaches o n plan work row tops → Reaches m n plan work row tops

@@ -1,13 +1,14 @@
 -- What reaches written leaves by the steps of a preparation.
-use Rattle.std.proofs.Common.{◌≡◌, ◌≢◌, ℕ, suc, ◌+◌, ◌*◌, ◌-◌, ◌^◌, ◌/◌, ◌<◌, ◌≤◌, inl, inr, List, [], ◌++◌, length, set, refl, sym, ◌∙◌, ap, subst, arith}
+use Rattle.std.proofs.Common.{◌≡◌, ◌≢◌, ℕ, suc, ◌+◌, ◌*◌, ◌-◌, ◌^◌, ◌/◌, ◌<◌, ◌≤◌, inl, inr, List, [], length, set, refl, sym, ◌∙◌, ap, subst, arith}
 use Rattle.std.specs.Prelude.{Bool, true, ◌||◌, if◌then◌else◌, slice_index, Result}
 use Rattle.std.proofs.Math.Nat.{div-lt_iff_lt-mul, div-mul-le_self, one-le-pow}
-use Rattle.std.proofs.lemmas.List.{append-nil}
+use Rattle.std.proofs.lemmas.Bool.{or_right}
 use Rattle.qx_geom.proofs.LeastLevels.{levels_for-reach}
 use Rattle.qx_geom.specs.Layout.{levels_for}
 use Rattle.qx_geom.specs.Lists.{Distinct, is_in}
 use Rattle.qx_geom.specs.Pointer.{absent, per_block, reach}
 use Rattle.qx_geom.specs.Positions.{index_above}
+use Rattle.qx_geom.proofs.LeastTouch.{above_next}
 use Rattle.qx_nodes.proofs.LeafPaths.{by_one}
 use Rattle.qx_blocks.specs.BlockState.{BlockState, IsConsistent}
 use Rattle.qx_blocks.specs.declared.blocks.Stop.{Stop}
@@ -19,11 +20,9 @@ use Rattle.qx_ptree.specs.Building.{GivesUp, LiesUnder, Row, WritesBlock, Writes
 use Rattle.qx_ptree.specs.Fates.{IsChange, fate_of, is_gone, is_written, leaves_after}
 use Rattle.qx_ptree.specs.Reaching.{IsMarked, IsOwnPosition, Reaches, ReachesOnto}
 use Rattle.qx_ptree.specs.ReadyLeaves.{IsAbove, IsReadyApart, IsWrittenBy, OwnAsLeft, StandIn}
-use Rattle.qx_ptree.specs.Takings.{Adds, Takes}
+use Rattle.qx_ptree.specs.Takings.{Takes}
 use Rattle.qx_ptree.specs.WorkState.{Preparation, WorkState, all_blocks, committed, no_work, blocks_of}
-use Rattle.qx_ptree.proofs.AddedWork.{CanEdit-none, adds_none, adds_then, nothing_in}
-use Rattle.qx_ptree.proofs.ListedBlocks.{either_right}
-use Rattle.qx_ptree.proofs.OwnPositions.{above-up}
+use Rattle.qx_ptree.proofs.AddedWork.{adds_none, adds_then, adds_released}
 use Rattle.qx_ptree.proofs.ReachedBlocks.{block_there, reaches_block_at, taken_there}
 use Rattle.qx_ptree.proofs.ReachedRows.{fresh_stay, own_leaf, reaches_later, reaches_leaf, reaches_next, reaches_no_work, reaches_nothing, reaches_sized}
 use Rattle.qx_ptree.proofs.ReadyNodes.{IsReached, ready_node, stand_node}
@@ -68,16 +67,6 @@ onto_none m n before after plan row tops t same out = record { adds = adds_none 
 pub onto_empty : (m n : BlockState) (before after : WorkState) (plan : Plan) (level first : ℕ) (tops : ℕ → ℕ) → Takes [] m n → after ≡ before → ReachesOnto m n before after plan (record { level = level; first = first; count = 0 }) tops
 onto_empty m n before after plan level first tops t same =
     onto_none m n before after plan (record { level = level; first = first; count = 0 }) tops t same (λ k j u. none_under (per_block m.holdings.size) (record { level = level; first = first; count = 0 }) k j refl u.under)
-
--- several blocks are to be given up
-abbrev pub adds_released : (m n : BlockState) (before after : WorkState) (blocks : List ℕ) → Takes [] m n → after ≡ with_released before blocks → Adds m n before after
-adds_released m n before after blocks t noted = record {
-  added = with_released no_work blocks;
-  is = noted ∙ sym (λ i. record { fresh = append-nil before.fresh i; edits = append-nil before.edits i; kept = append-nil before.kept i; released = before.released ++ blocks });
-  takes = t;
-  kept = λ q h. absurd (nothing_in q h);
-  edits = CanEdit-none n (with_released no_work blocks) refl;
-}
 
 -- as a call said that gives up what lies somewhere
 pub onto_given_up : (m n o : BlockState) (before after : WorkState) (plan : Plan) (inside : ℕ → ℕ → Type 0) (result : Result (Unit {0}) Stop) (row : Row) (tops : ℕ → ℕ) → Takes [] m o → GivesUp m n before after plan inside result
@@ -147,7 +136,7 @@ pub marked_more : (m : BlockState) (plan : Plan) (level first w : ℕ) (changed 
 marked_more m plan level first w changed present more there a b = record {
   marked = λ k j u. elim (row_more (per_block m.holdings.size) level first w k j u.under) [
     | inl x ↦ let e : (changed ≡ true) × (present ≡ true) = a.marked k j (record { under = x; above = u.above }) in (ap (λ t. t || more) e.0, ap (λ t. t || there) e.1)
-    | inr y ↦ let e : (more ≡ true) × (there ≡ true) = b.marked k j (record { under = y; above = u.above }) in (either_right changed more e.0, either_right present there e.1)
+    | inr y ↦ let e : (more ≡ true) × (there ≡ true) = b.marked k j (record { under = y; above = u.above }) in (or_right changed more e.0, or_right present there e.1)
   ];
 }
 
@@ -160,7 +149,7 @@ marked_block m plan level index changed present above pos a = record {
       let row : Row = record { level = level - 1; first = index * P; count = P } in
       let l : (i : ℕ) × (is_written plan.change i ≡ true) × (index_above m.holdings.size level i ≡ index) = own_leaf m plan level index k j u in
       let next : suc (level - 1) ≡ level = omega (arith, above) in
-      let up : index_above m.holdings.size (level - 1) l.0 / P ≡ index = above-up m.holdings.size (level - 1) l.0 ∙ ap (λ x. index_above m.holdings.size x l.0) next ∙ l.2 in
+      let up : index_above m.holdings.size (level - 1) l.0 / P ≡ index = above_next m.holdings.size (level - 1) l.0 ∙ ap (λ x. index_above m.holdings.size x l.0) next ∙ l.2 in
       let b : (index * P ≤ index_above m.holdings.size (level - 1) l.0) × (index_above m.holdings.size (level - 1) l.0 < (index + 1) * P) = below_block (index_above m.holdings.size (level - 1) l.0) P index pos up in
       a.marked (level - 1) (index_above m.holdings.size (level - 1) l.0)
       (record { under = row_own P row (index_above m.holdings.size (level - 1) l.0) b.0 (omega (arith, b.1)); above = record { leaf = l.0; one = l.1; above = refl } });

@@ -1,15 +1,14 @@
 -- A committed node: its written leaves and the pointer blocks above them are ready, and stand at one position each.
-use Rattle.std.proofs.Common.{◌≡◌, ℕ, zero, suc, ◌+◌, ◌*◌, ◌-◌, ◌^◌, ◌/◌, ◌%◌, ◌<◌, ◌≤◌, inl, inr, List, ◌++◌, append_assoc, length, refl, sym, ◌∙◌, ap, subst, arith}
-use Rattle.std.specs.Prelude.{true, false, ◌==◌, if◌then◌else◌, slice_index, slice_index_or, IsTrue}
-use Rattle.std.proofs.Math.Nat.{div-div-eq-div-mul, div-lt_iff_lt-mul, mul_comm, one-le-pow, pow-suc}
+use Rattle.std.proofs.Common.{◌≡◌, ℕ, ◌+◌, ◌*◌, ◌-◌, ◌^◌, ◌/◌, ◌<◌, ◌≤◌, inl, inr, List, ◌++◌, append_assoc, length, refl, sym, ◌∙◌, ap, subst, arith}
+use Rattle.std.specs.Prelude.{true, false, slice_index, slice_index_or, IsTrue}
+use Rattle.std.proofs.Math.Nat.{div-div-eq-div-mul, div-lt_iff_lt-mul, one-le-pow}
 use Rattle.std.proofs.lemmas.List.{get_or_default}
 use Rattle.std.proofs.lemmas.Nat.{pow-add}
+use Rattle.std.proofs.lemmas.Bool.{or_right}
 use Rattle.qx_geom.proofs.Members.{in_append_cases, in_left, in_right}
-use Rattle.qx_geom.specs.declared.root.Root.{Root}
 use Rattle.qx_geom.specs.Lists.{Distinct, is_in}
 use Rattle.qx_geom.specs.Pointer.{absent, per_block}
-use Rattle.qx_nodes.proofs.LeafPaths.{by_one}
-use Rattle.qx_nodes.specs.BlockMap.{BlockMap, word}
+use Rattle.qx_nodes.specs.BlockMap.{BlockMap}
 use Rattle.qx_blocks.specs.BlockState.{BlockState, Holdings}
 use Rattle.qx_ptree.specs.declared.fresh_blocks.Plan.{Plan}
 use Rattle.qx_ptree.specs.Building.{Row, new_pointer, pointer_down}
@@ -17,23 +16,15 @@ use Rattle.qx_ptree.specs.Fates.{is_written}
 use Rattle.qx_ptree.specs.Reaching.{IsOwnPosition, Reaches, ShowsOwn, own_blocks}
 use Rattle.qx_ptree.specs.ReadyLeaves.{IsAbove, IsReadyApart, IsWrittenBy, OwnAsLeft, StandIn}
 use Rattle.qx_ptree.specs.Takings.{LeavesOthers, Takes}
-use Rattle.qx_ptree.specs.Trees.{block_map, pointer_at, pointer_from}
+use Rattle.qx_ptree.specs.Trees.{block_map, pointer_at}
 use Rattle.qx_ptree.specs.WorkState.{EditState, Preparation, WorkState, all_blocks, blocks_of, committed, with_edits}
 use Rattle.qx_ptree.proofs.DistinctBlocks.{distinct_apart_lists, distinct_left}
 use Rattle.qx_ptree.proofs.EditedBlocks.{edits_give, edits_holdings}
-use Rattle.qx_ptree.proofs.ListedBlocks.{either_right}
 use Rattle.qx_ptree.proofs.OtherBlocks.{LeavesOthers-with_edits, LeavesOthers-without_all}
 use Rattle.qx_ptree.proofs.PointersByPosition.{at_from}
+use Rattle.qx_ptree.proofs.NewPositions.{from-down}
 
 -- ---- the node's pointers
-
--- a pointer by position is one below the node's own
-from_down : (t : BlockMap) (node : Root) (d j : ℕ) → pointer_from t node d j ≡ pointer_down t d (slice_index_or node.pointers (j / per_block t.size ^ d) absent) j
-from_down t node zero j = ap (λ x. slice_index_or node.pointers x absent) (sym (by_one j (per_block t.size)))
-from_down t node (suc d) j =
-    let P : ℕ = per_block t.size in
-    let up : j / P / P ^ d ≡ j / P ^ suc d = div-div-eq-div-mul j P (P ^ d) ∙ ap (λ n. j / n) (mul_comm P (P ^ d) ∙ sym (pow-suc P d)) in
-    ap (λ above. if above == absent then absent else word t above (j % P)) (from_down t node d (j / P) ∙ ap (λ x. pointer_down t d (slice_index_or node.pointers x absent) (j / P)) up)
 
 -- of the leaves below 16 blocks, each stands below one of them
 few_above : (i P l : ℕ) → 0 < P → i < 16 * P ^ l → i / P ^ l < 16
@@ -88,7 +79,7 @@ module _ (m n now : BlockState) (plan : Plan) (p : Preparation) (r : IsReached m
   -- a block that stays was ready
   own_ready : (b : ℕ) → is_in (own_blocks p.work) b ≡ true → IsTrue (n.holdings.ready b)
   own_ready b h = elim (in_append_cases p.work.fresh p.work.kept b h) [
-    | inl fresh ↦ r.takes.ready b (either_right (m.holdings.ready b) (is_in p.work.fresh b) fresh)
+    | inl fresh ↦ r.takes.ready b (or_right (m.holdings.ready b) (is_in p.work.fresh b) fresh)
     | inr kept ↦ r.kept b kept
   ]
 
@@ -128,7 +119,7 @@ module _ (m n now : BlockState) (plan : Plan) (p : Preparation) (r : IsReached m
   own_pointer k j u =
       let t : BlockMap = block_map plan.order (committed now p) in
       let d : ℕ = p.root.levels - k in
-      at_from t p.root k j d u.under.level refl ∙ from_down t p.root d j
+      at_from t p.root k j d u.under.level refl ∙ from-down t p.root d j
       ∙ (λ i. pointer_down (record { order = plan.order; size = same_size i; count = same_count i; bytes = (committed now p).bytes }) d (slice_index_or p.root.pointers (j / per_block (same_size i) ^ d) absent) j)
       ∙ ap (λ x. pointer_down (record { order = plan.order; size = m.holdings.size; count = m.holdings.count; bytes = (committed now p).bytes }) d x j)
       (sym (get_or_default p.root.pointers (j / per_block m.holdings.size ^ d) 0 absent (omega (arith, u.under.to, r.long))))

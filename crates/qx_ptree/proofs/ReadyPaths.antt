@@ -95,7 +95,7 @@ pointer_at-depth m node k d j sum =
     ap (λ t. if t then absent else pointer_from m node (node.levels - k) j) (le-ltb node.levels k (omega arith)) ∙ ap (λ x. pointer_from m node x j) depth
 
 -- the block above a leaf's block
-index_over : (P l i : ℕ) → i / P ^ l / P ≡ i / P ^ suc l
+pub index_over : (P l i : ℕ) → i / P ^ l / P ≡ i / P ^ suc l
 index_over P l i = div-div-eq-div-mul i (P ^ l) P ∙ ap (λ q. i / q) (sym (pow-suc P l))
 
 -- the pointer a level below is the word on the path

@@ -16,7 +16,7 @@ use Rattle.qx_ptree.specs.Trees.{Leads, block_map}
 use Rattle.qx_ptree.specs.WorkState.{WorkState}
 use Rattle.qx_ptree.proofs.BuiltBlocks.{div_first}
 use Rattle.qx_ptree.proofs.GivenUpParts.{absent_under, blocks_join, blocks_none, blocks_one, gives_then, released_none}
-use Rattle.qx_ptree.proofs.KeptPlans.{told_before}
+use Rattle.qx_ptree.proofs.KeptPlans.{told_before, kept_again}
 use Rattle.qx_ptree.proofs.PlannedPointers.{IsToldPlan, planned_lead}
 use Rattle.qx_ptree.proofs.PointerCounts.{words_bounds, words_positive}
 use Rattle.qx_ptree.proofs.PointersByPosition.{at_above, pointer_past, pointer_up}
@@ -168,14 +168,6 @@ outside_all m plan level xs ys p up a b =
 
 -- ---- as the calls give them up
 
--- blocks that are kept twice are kept
-kept_twice : (m n o : BlockState) → Keeps m n → Keeps n o → Keeps m o
-kept_twice m n o k l = record {
-  told = λ told. l.told told ∙ k.told (told_before n o l told);
-  holdings = l.holdings ∙ k.holdings;
-  ready = λ b r. l.ready b (subst (λ h. IsTrue (h.ready b)) (sym k.holdings) r) ∙ k.ready b r;
-}
-
 -- the block of a position by itself, over blocks that were kept
 pub gives_own : (m n : BlockState) (plan : Plan) (level index p lead : ℕ) (before after : WorkState) → IsConsistent m → length plan.node.pointers ≡ 16 → IsPlan m plan → (IsTrue m.tells → p ≡ planned_pointer plan m level index) → (Leads m p → lead ≡ p) → lead ≢ absent → Keeps m n
     → after ≡ record before { released = before.released ++ lead ∷ [] } → GivesUp m n before after plan (λ k j. (k ≡ level) × (j ≡ index)) (Ok tt)
@@ -228,7 +220,7 @@ spine_gives_more m n o q plan level above p lead words before mid next after res
     let bounds : 128 ≤ P = (words_bounds m.holdings.size s.size).0 in
     let above_is : suc (above - 1) ≡ above = omega arith in
     let size_n : words ≡ per_block n.holdings.size = size ∙ ap (λ h. per_block h.size) (sym k.holdings) in
-    gives_then m n q before mid after plan (λ P k j. (k ≡ above) × (j ≡ 0)) (LiesBetween level (above - 1)) (λ P. LiesOnSpine P level above) result k (kept_twice n o q l r)
+    gives_then m n q before mid after plan (λ P k j. (k ≡ above) × (j ≡ 0)) (LiesBetween level (above - 1)) (λ P. LiesOnSpine P level above) result k (kept_again n o q l r)
     (gives_own m n plan above 0 p lead before mid s long met is same there k noted)
     (gives_then n o q mid next after plan (λ P. LiesUnder P (record { level = above - 1; first = 1; count = words - 1 })) (λ P. LiesOnSpine P level (above - 1)) (LiesBetween level (above - 1)) result l r b c
     (λ told ys zs x y.

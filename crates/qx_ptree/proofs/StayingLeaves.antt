@@ -1,18 +1,18 @@
 -- Leaves that stay ready where the blocks at them and above them stay as they are.
 use Rattle.std.proofs.Common.{◌≡◌, ℕ, zero, suc, ◌+◌, ◌*◌, ◌-◌, ◌/◌, ◌%◌, ◌≤◌, List, refl, sym, ◌∙◌, ap, subst, arith}
 use Rattle.std.specs.Prelude.{true, false, ◌==◌, if◌then◌else◌, IsTrue}
+use Rattle.std.proofs.lemmas.Bool.{or_left}
 use Rattle.qx_fields.specs.declared.order.Order.{Order}
 use Rattle.qx_fields.specs.Number.{field}
 use Rattle.qx_geom.specs.declared.root.Root.{Root}
 use Rattle.qx_geom.specs.Lists.{is_in}
 use Rattle.qx_geom.specs.Pointer.{absent, per_block}
+use Rattle.qx_geom.proofs.LeastTouch.{above_next}
 use Rattle.qx_nodes.specs.BlockMap.{word}
 use Rattle.qx_blocks.specs.BlockState.{BlockState}
 use Rattle.qx_ptree.specs.ReadyLeaves.{IsAbove, IsReadyApart, StandIn}
 use Rattle.qx_ptree.specs.Takings.{LeavesOthers, Takes}
 use Rattle.qx_ptree.specs.Trees.{block_map, pointer_at, pointer_from}
-use Rattle.qx_ptree.proofs.ListedBlocks.{either_left}
-use Rattle.qx_ptree.proofs.OwnPositions.{above-up}
 use Rattle.qx_ptree.proofs.PointersByPosition.{at_from}
 
 -- of some blocks, those that were ready are, with the bytes that they had
@@ -27,12 +27,12 @@ stay_others m n changed blocks l out = record { size = l.size; ready = λ b h wa
 
 -- and with all that there are, where blocks are taken
 pub stay_taken : (fresh : List ℕ) (m n : BlockState) (blocks : List ℕ) → Takes fresh m n → StayReady m n blocks
-stay_taken fresh m n blocks t = record { size = t.size; ready = λ b h was. t.ready b (either_left (m.holdings.ready b) (is_in fresh b) was); bytes = λ b h was. t.ready_bytes b was }
+stay_taken fresh m n blocks t = record { size = t.size; ready = λ b h was. t.ready b (or_left (m.holdings.ready b) (is_in fresh b) was); bytes = λ b h was. t.ready_bytes b was }
 
 module _ (order : Order) (m n : BlockState) (node : Root) (leaves : ℕ → Type 0) (blocks : List ℕ) (apart : IsReadyApart order m node leaves) (stand : StandIn order m node leaves blocks) (stay : StayReady m n blocks) where
   -- one level up
   above_up : (k j : ℕ) → IsAbove m.holdings.size leaves k j → IsAbove m.holdings.size leaves (suc k) (j / per_block m.holdings.size)
-  above_up k j a = record { leaf = a.leaf; one = a.one; above = sym (above-up m.holdings.size k a.leaf) ∙ ap (λ x. x / per_block m.holdings.size) a.above }
+  above_up k j a = record { leaf = a.leaf; one = a.one; above = sym (above_next m.holdings.size k a.leaf) ∙ ap (λ x. x / per_block m.holdings.size) a.above }
 
   -- the pointers to them, level by level
   from_stays : (d k j : ℕ) → k + d ≡ node.levels → IsAbove m.holdings.size leaves k j → pointer_from (block_map order n) node d j ≡ pointer_from (block_map order m) node d j

@@ -7,6 +7,7 @@ use Rattle.std.proofs.lemmas.List.Sums.{sum_by-cons}
 use Rattle.std.proofs.lemmas.Nat.{div-add-mod', div-mul-add, mod_below}
 use Rattle.qx_geom.proofs.Members.{in_head, in_tail}
 use Rattle.qx_geom.specs.Lists.{is_in}
+use Rattle.qx_geom.proofs.Truths.{or_left, or_right}
 
 -- the sum of what f gives for each number below n
 unfoldable pub sum_up_to : ℕ → (ℕ → ℕ) → ℕ
@@ -67,7 +68,7 @@ sum_up_to-first (suc n) f =
     omega (arith, sum_up_to-first n f)
 
 -- the sum over a list of neighbouring numbers
-sum_from : (f : ℕ → ℕ) (a n : ℕ) → sum_by f (range_with_len a n) ≡ sum_up_to n (λ k. f (a + k))
+pub sum_from : (f : ℕ → ℕ) (a n : ℕ) → sum_by f (range_with_len a n) ≡ sum_up_to n (λ k. f (a + k))
 unfolding sum_up_to
 sum_from f a zero = refl
 sum_from f a (suc n) =
@@ -104,17 +105,9 @@ pub any_up_to-at : (n : ℕ) (test : ℕ → Bool) (k : ℕ) → any_up_to n tes
 unfolding any_up_to
 any_up_to-at zero test k none low = absurd (omega arith)
 any_up_to-at (suc n) test k none low = elim (cases_lt k n) [
-  | inl before ↦ any_up_to-at n test k (first (any_up_to n test) (test n) none) before
-  | inr up ↦ subst (λ j. test j ≡ false) (let e : n ≡ k = omega arith in e) (second (any_up_to n test) (test n) none)
+  | inl before ↦ any_up_to-at n test k (or_left (any_up_to n test) (test n) none) before
+  | inr up ↦ subst (λ j. test j ≡ false) (let e : n ≡ k = omega arith in e) (or_right (any_up_to n test) (test n) none)
 ]
-  where
-    first : (a b : Bool) → (a || b) ≡ false → a ≡ false
-    first true b e = absurd (cc)
-    first false b e = refl
-
-    second : (a b : Bool) → (a || b) ≡ false → b ≡ false
-    second true b e = absurd (cc)
-    second false b e = e
 
 -- one of two tests
 pub any_up_to-or : (n : ℕ) (f g : ℕ → Bool) → any_up_to n (λ k. f k || g k) ≡ (any_up_to n f || any_up_to n g)

@@ -2,7 +2,7 @@
 use Rattle.std.proofs.Common.{◌≡◌, ℕ, ◌<◌, inl, inr, [], ◌∷◌, ◌++◌, List, refl, sym, ◌∙◌, ap, arith}
 use Rattle.std.specs.Prelude.{true, false, IsTrue, replicate}
 use Rattle.std.proofs.Math.Bool.{or-false}
-use Rattle.std.proofs.lemmas.Bool.{or_cases}
+use Rattle.std.proofs.lemmas.Bool.{or_cases, or_right, or_left as either_left}
 use Rattle.std.proofs.lemmas.List.{length-append}
 use Rattle.qx_geom.specs.Lists.{is_in}
 use Rattle.qx_geom.proofs.Truths.{not_so, or_left, true_or_false}
@@ -12,7 +12,7 @@ use Rattle.qx_geom.proofs.ImagesAndFilters.{in_Contains}
 use Rattle.qx_blocks.specs.BlockState.{BlockState, IsConsistent, put, with_bytes, with_fresh}
 use Rattle.qx_blocks.specs.Calls.{Keeps, MakesReady}
 use Rattle.qx_ptree.specs.Takings.{Takes}
-use Rattle.qx_ptree.proofs.ListedBlocks.{either_left, either_right, more_pass, put-or, put-other}
+use Rattle.qx_ptree.proofs.ListedBlocks.{more_pass, put-or, put-other}
 
 -- a block that can be written at once is held
 pub ready_held : (m : BlockState) (b : ℕ) → IsConsistent m → IsTrue (m.holdings.ready b) → IsTrue (m.holdings.held b)
@@ -62,7 +62,7 @@ Takes-ready m n b r = record {
 
 -- it is then ready
 pub ready-made : (m n : BlockState) (b : ℕ) → MakesReady b m n → IsTrue (n.holdings.ready b)
-ready-made m n b r = ap (λ h. h.ready b) r.holdings ∙ put-or m.holdings.ready b b ∙ either_right (m.holdings.ready b) (is_in (b ∷ []) b) (in_one b)
+ready-made m n b r = ap (λ h. h.ready b) r.holdings ∙ put-or m.holdings.ready b b ∙ or_right (m.holdings.ready b) (is_in (b ∷ []) b) (in_one b)
   where
     in_one : (b : ℕ) → is_in (b ∷ []) b ≡ true
     in_one b = in_Contains (b ∷ []) b (0, omega arith, refl)
@@ -135,8 +135,8 @@ Takes-then fs gs m n o f g = record {
   ready = λ q t. elim (or_cases (m.holdings.ready q) (is_in (fs ++ gs) q) t) [
     | inl before ↦ later q (f.ready q (either_left (m.holdings.ready q) (is_in fs q) before))
     | inr added ↦ elim (in_append_cases fs gs q added) [
-      | inl first ↦ later q (f.ready q (either_right (m.holdings.ready q) (is_in fs q) first))
-      | inr second ↦ g.ready q (either_right (n.holdings.ready q) (is_in gs q) second)
+      | inl first ↦ later q (f.ready q (or_right (m.holdings.ready q) (is_in fs q) first))
+      | inr second ↦ g.ready q (or_right (n.holdings.ready q) (is_in gs q) second)
     ]
   ];
   unheld = λ q t. elim (in_append_cases fs gs q t) [
@@ -152,7 +152,7 @@ Takes-then fs gs m n o f g = record {
     )
   ];
   distinct = Distinct-append fs gs f.distinct g.distinct (λ x a b. true_or_false (n.holdings.held x)
-      (f.held x ∙ either_right (m.holdings.held x) (is_in fs x) (in_Contains fs x a))
+      (f.held x ∙ or_right (m.holdings.held x) (is_in fs x) (in_Contains fs x a))
       (g.unheld x (in_Contains gs x b)));
   free = omega (arith, f.free, g.free, length-append fs gs);
   ready_bytes = λ q r. g.ready_bytes q (f.ready q (either_left (m.holdings.ready q) (is_in fs q) r)) ∙ f.ready_bytes q r;

@@ -1,7 +1,9 @@
 -- What leaves a change that waits for its commit as it was.
-use Rattle.std.proofs.Common.{◌≡◌, ℕ, List, [], ◌∷◌, inl, inr, refl, sym, ◌∙◌, ap, subst}
+use Rattle.std.proofs.Common.{◌≡◌, ℕ, List, [], ◌∷◌, inl, inr, sym, ◌∙◌, ap, subst}
 use Rattle.std.specs.Prelude.{true, false, not, ◌||◌, Bool, IsTrue, Contains}
 use Rattle.std.specs.List.{list_any}
+use Rattle.std.proofs.Math.Bool.{or-false}
+use Rattle.std.proofs.lemmas.Bool.{or_left as either_left}
 use Rattle.qx_fields.specs.declared.order.Order.{Order}
 use Rattle.qx_geom.specs.Lists.{is_in}
 use Rattle.qx_geom.proofs.Members.{in_cases}
@@ -16,8 +18,8 @@ use Rattle.qx_ptree.specs.Trees.{IsWorking, block_map}
 use Rattle.qx_ptree.specs.WorkState.{CanCommit, Preparation, blocks_of}
 use Rattle.qx_ptree.proofs.CarriedPlans.{fresh_held, held_after, held_old, private_after}
 use Rattle.qx_ptree.proofs.KeptNodes.{visits_kept}
-use Rattle.qx_ptree.proofs.ListedBlocks.{either_left}
 use Rattle.qx_ptree.proofs.OtherBlocks.{kept_among}
+use Rattle.qx_ptree.proofs.CommitSteps.{same_after}
 
 -- none of some blocks is one of others
 abbrev pub IsApart : List ℕ → List ℕ → Type 0
@@ -75,23 +77,15 @@ same_taken fresh m n b told t held =
     let old : is_in fresh b ≡ false = held_old fresh m n b t held in
     record {
       held = held_after fresh m n b t held ∙ sym held;
-      works = t.works b ∙ ap (λ x. m.holdings.works b || x) old ∙ first (m.holdings.works b);
+      works = t.works b ∙ ap (λ x. m.holdings.works b || x) old ∙ or-false (m.holdings.works b);
       private = private_after fresh m n b t held;
       ready = λ was. t.ready b (either_left (m.holdings.ready b) (is_in fresh b) was);
       bytes = t.told_bytes told b held;
     }
-  where
-    first : (a : Bool) → (a || false) ≡ a
-    first true = refl
-    first false = refl
 
 -- a block that isn't changed is as it was
 same_others : (changed : List ℕ) (m n : BlockState) (b : ℕ) → LeavesOthers changed m n → is_in changed b ≡ false → IsSameBlock m n b
 same_others changed m n b l out = record { held = l.held b out; works = l.works b out; private = l.private b out; ready = λ was. l.ready b out ∙ was; bytes = l.bytes b out }
-
--- and one after two calls that left it
-same_then : (m n o : BlockState) (b : ℕ) → IsSameBlock m n b → IsSameBlock n o b → IsSameBlock m o b
-same_then m n o b f g = record { held = g.held ∙ f.held; works = g.works ∙ f.works; private = g.private ∙ f.private; ready = λ was. g.ready (f.ready was); bytes = g.bytes ∙ f.bytes }
 
 -- the blocks of a prepared change are held
 pub own_held : (order : Order) (old now : BlockState) (p : Preparation) → IsConsistent old → IsWorking order old p.node → Takes p.work.fresh old now → IsPrepared order old now p
@@ -130,6 +124,6 @@ pub left_then : (order : Order) (p : Preparation) (m n o : BlockState) → AsLef
 left_then order p m n o f g = record {
   size = g.size ∙ f.size;
   count = g.count ∙ f.count;
-  own = λ b h. same_then m n o b (f.own b h) (g.own b h);
-  others = λ v c. same_then m n o v.block (f.others v c) (g.others v (subst (λ vs. Contains vs v) (sym (visits_kept order m n p.node (left_keeps order p m n f))) c));
+  own = λ b h. same_after m n o b (f.own b h) (g.own b h);
+  others = λ v c. same_after m n o v.block (f.others v c) (g.others v (subst (λ vs. Contains vs v) (sym (visits_kept order m n p.node (left_keeps order p m n f))) c));
 }

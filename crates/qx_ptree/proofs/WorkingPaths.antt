@@ -1,10 +1,9 @@
 -- The path to a leaf below a node's size leads to blocks that the working tree holds.
 use Rattle.std.proofs.Common.{◌≡◌, ◌≢◌, ℕ, zero, suc, ◌+◌, ◌*◌, ◌-◌, ◌^◌, ◌/◌, ◌%◌, ◌<◌, Bool, true, false, List, [], ◌∷◌, length, refl, sym, ◌∙◌, ap, subst, arith}
 use Rattle.std.specs.Prelude.{◌||◌, ◌==◌, nat_lt, nat_le, if◌then◌else◌, Contains, slice_index_or, Option, Result, IfOk, IsTrue}
-use Rattle.std.proofs.Math.Nat.{mod-lt, add-mul, one-mul}
+use Rattle.std.proofs.Math.Nat.{mod-lt}
 use Rattle.std.proofs.Math.Numerals.{sub-one}
 use Rattle.std.proofs.lemmas.List.{get_or_default}
-use Rattle.std.proofs.lemmas.Nat.{div_below}
 use Rattle.std.proofs.lemmas.Result.{IfOk-weaker}
 use Rattle.std.proofs.lemmas.Bool.{ne_eqb, lt-ltb, lt-leb}
 use Rattle.qx_fields.specs.declared.order.Order.{Order}
@@ -20,7 +19,8 @@ use Rattle.qx_nodes.proofs.LeafPaths.{begins_before, by_one, way_down}
 use Rattle.qx_blocks.specs.BlockState.{BlockState, IsConsistent}
 use Rattle.qx_blocks.specs.Calls.{Keeps}
 use Rattle.qx_ptree.specs.Trees.{HasLevels, IsWorking, PathLeads, block_map, leaf_at}
-use Rattle.qx_ptree.proofs.PointerCounts.{power_positive, size_positive, words_positive}
+use Rattle.qx_ptree.proofs.PointerCounts.{words_positive}
+use Rattle.qx_ptree.proofs.ReadyPaths.{top_below}
 
 -- a block of the working tree is one of the blocks
 pub works_below : (m : BlockState) (b : ℕ) → IsConsistent m → IsTrue (m.holdings.works b) → b < m.holdings.count
@@ -64,16 +64,6 @@ path_leads order m last (suc l) p i s below all =
           (λ v c. (here there).1 v (Contains-parts P part w v (mod-lt (i / P ^ l) (words_positive m.holdings.size s.size))
           (subst (λ k. Contains (visits_under t last l k (word t p w)) v) (sym (way_down i l P)) c))),
     )
-
--- a leaf below the size is reached by one of a node's 16 pointers
-pub top_below : (m : BlockState) (node : Root) (i : ℕ) → IsConsistent m → HasLevels m.holdings.size node → i < ceil_div node.size m.holdings.size → i / per_block m.holdings.size ^ node.levels < 16
-top_below m node i s levels below =
-    let size : ℕ = m.holdings.size in
-    let K : ℕ = 16 * per_block size ^ node.levels in
-    let positive : 0 < size = size_positive size s.size in
-    let more : node.size + size - 1 < (K + 1) * size = rw (add-mul K 1 size, one-mul size) (omega (arith, levels.reached)) in
-    let leaves : ceil_div node.size size < K + 1 = div_below (node.size + size - 1) size (K + 1) positive more in
-    div_below i (per_block size ^ node.levels) 16 (power_positive size node.levels s.size) (omega arith)
 
 -- the path from a node's pointers to a leaf below its size leads to blocks of the working tree
 pub node_leads : (order : Order) (m : BlockState) (node : Root) (i : ℕ) → IsConsistent m → HasLevels m.holdings.size node → i < ceil_div node.size m.holdings.size → IsWorking order m node

@@ -1,16 +1,13 @@
 -- A shift of a sum is the sum of the shifts, where the sum is the exclusive or.
-use Rattle.std.proofs.Common.{◌≡◌, ℕ, zero, suc, ◌+◌, ◌-◌, ◌*◌, ◌/◌, ◌%◌, ◌≤◌, ◌<◌, ◌^◌, ◌⊎◌, inl, inr, refl, ap, sym, ◌∙◌, arith}
+use Rattle.std.proofs.Common.{◌≡◌, ℕ, zero, suc, ◌+◌, ◌-◌, ◌*◌, ◌/◌, ◌%◌, ◌≤◌, ◌<◌, ◌^◌, inl, inr, refl, ap, sym, ◌∙◌, arith}
 use Rattle.std.specs.Prelude.{bit_xor}
 use Rattle.std.specs.Int.{bit_at}
 use Rattle.std.proofs.lemmas.Nat.{xor_lt}
 use Rattle.std.proofs.lemmas.Nat.Bits.{bit_at_xor, bit_at-lt, bit_at-suc, bit_at_above, bit_at_cat_low, same_from_bits_below, bit_at_lowest}
 use Rattle.std.proofs.lemmas.Bool.Decides.{nat_tests}
+use Rattle.std.proofs.lemmas.Bool.{cases_lt}
 use Rattle.qx_super.specs.Checksum.{shift, divisor}
 use Rattle.qx_super.proofs.Bytewise.{shifts}
-
--- a number is below another or not
-pub below_or : (a b : ℕ) → (a < b) ⊎ (b ≤ a)
-below_or a b = grind arith
 
 -- below 2^31 nothing is divided off
 pub shift_low : (r : ℕ) → r < 2 ^ 31 → shift r ≡ 2 * r
@@ -24,7 +21,7 @@ shift_high r h = grind (arith, nat_tests)
 
 -- a remainder stays below 2^32
 pub shift_lt : (r : ℕ) → r < 2 ^ 32 → shift r < 2 ^ 32
-shift_lt r h = elim (below_or r (2 ^ 31)) [
+shift_lt r h = elim (cases_lt r (2 ^ 31)) [
   | inl low ↦ rw (shift_low r low) (omega arith)
   | inr high ↦ rw (shift_high r high) (xor_lt 32 (2 * r - 2 ^ 32) divisor (omega arith) (omega arith))
 ]
@@ -57,7 +54,7 @@ plain x d h = omega arith
 
 -- each bit of a shift: the one below it, and the divisor's where the highest bit was 1
 shift_bits : (r i : ℕ) → r < 2 ^ 32 → i < 32 → bit_at (shift r) i ≡ (bit_at (2 * r) i + bit_at r 31 * bit_at divisor i) % 2
-shift_bits r i h within = elim (below_or r (2 ^ 31)) [
+shift_bits r i h within = elim (cases_lt r (2 ^ 31)) [
   | inl low ↦
       ap (λ (m : ℕ). bit_at m i) (shift_low r low) ∙ plain (bit_at (2 * r) i) (bit_at divisor i) (bit_at-lt (2 * r) i)
       ∙ ap (λ (t : ℕ). (bit_at (2 * r) i + t * bit_at divisor i) % 2) (sym (top_low r low))

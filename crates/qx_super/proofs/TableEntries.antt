@@ -5,10 +5,11 @@ use Rattle.std.specs.Int.{bit_at}
 use Rattle.std.proofs.lemmas.Bool.Decides.{nat_tests}
 use Rattle.std.proofs.lemmas.Nat.{xor_lt}
 use Rattle.std.proofs.lemmas.Nat.Bits.{bit_at_xor, bit_at_cat_low, bit_at_cat_high, bit_at_above, bit_at-zero, same_from_bits}
+use Rattle.std.proofs.lemmas.Bool.{cases_lt}
 use Rattle.qx_super.specs.declared.division.TheConstants.{TABLE}
 use Rattle.qx_super.specs.Checksum.{shift, checksum_of}
 use Rattle.qx_super.proofs.Bytewise.{shifts, with_byte}
-use Rattle.qx_super.proofs.LinearShifts.{below_or, shift_low, shifts_xor}
+use Rattle.qx_super.proofs.LinearShifts.{shift_low, shifts_xor}
 use Rattle.qx_super.proofs.LongDivision.{checksum_more}
 
 -- the entries from place k on are right
@@ -64,7 +65,7 @@ module _ (r byte : ℕ) where
   split_bits : (i : ℕ) → bit_at (bit_xor r (byte * 2 ^ 24)) i ≡ bit_at (bit_xor (bit_xor hi byte * 2 ^ 24) lo) i
   split_bits i =
       bit_at_xor r (byte * 2 ^ 24) i
-      ∙ elim (below_or i 24) [
+      ∙ elim (cases_lt i 24) [
         | inl low ↦
             let a : bit_at r i ≡ bit_at lo i = ap (λ (m : ℕ). bit_at m i) whole ∙ bit_at_cat_low hi 24 lo i low in
             let b : bit_at (byte * 2 ^ 24) i ≡ 0 = high_low byte i low in

@@ -1,6 +1,5 @@
 -- The report by what was read of both areas.
-use Rattle.std.proofs.Common.{◌≡◌, ℕ, List, length, Option, Some, None, IfSome, ap, ◌∙◌}
-use Rattle.qx_outside.specs.Causes.{StaysWhereTold}
+use Rattle.std.proofs.Common.{◌≡◌, ℕ, List, length, Option, ap, ◌∙◌}
 use Rattle.qx_super.specs.Superblock.{Superblock}
 use Rattle.qx_super.specs.Active.{AreRead, first_super, active_area, active_super, second_read, pick_of, super_of_pick}
 use Rattle.qx_super.proofs.ActiveAreas.{first_read-is, second_read-is}
@@ -17,9 +16,3 @@ report_read-is img first second len long read =
     ap (λ (n : ℕ). report_read first second n) long
     ∙ ap (λ (a : Option Superblock). report_by a (second_read first second (length img))) (first_read-is img first second read)
     ∙ ap (λ (b : Option Superblock). report_by (first_super img) b) (second_read-is img first second read)
-
--- a length that was answered, and stays, is the device's
-pub len_was : (before now : Option ℕ) (n len : ℕ) → StaysWhereTold before now → now ≡ Some n → IfSome before (λ m. len ≡ m) → len ≡ n
-len_was before None n len stays told answered = absurd (cc told)
-len_was None (Some k) n len stays told answered = absurd (cc stays.same)
-len_was (Some m) (Some k) n len stays told answered = cc (stays.same, told, answered)

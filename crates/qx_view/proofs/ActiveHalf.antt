@@ -4,6 +4,7 @@ use Rattle.std.specs.Prelude.{Bool, true, false, Option, Some, None, Result, Ok,
 use Rattle.std.specs.List.{list_all}
 use Rattle.std.proofs.lemmas.Bool.{eqb-true, leb-true, cases_lt}
 use Rattle.std.proofs.lemmas.Slice.Eq.{bytes_eq-Decides}
+use Rattle.std.proofs.lemmas.Option.{same_Some}
 use Rattle.qx_geom.proofs.BlockSizes.{block_size-bounds}
 use Rattle.qx_geom.proofs.LevelCounts.{level_count-leaves, tree_blocks-is}
 use Rattle.qx_geom.proofs.Truths.{and_left, and_right}
@@ -25,7 +26,7 @@ use Rattle.qx_super.specs.Active.{active_area, active_super}
 use Rattle.qx_super.specs.Superblock.{Superblock}
 use Rattle.qx_super.specs.declared.choice.Pick.TheVariants as picks
 use Rattle.qx_view.proofs.AlikeLists.{member_passes}
-use Rattle.qx_view.proofs.ImageTrees.{HasSize-image_blocks, some_same}
+use Rattle.qx_view.proofs.ImageTrees.{HasSize-image_blocks}
 use Rattle.qx_view.proofs.OuterNodes.{inode_outer, longfile_outer, outer_has}
 use Rattle.qx_view.proofs.SystemTrees.{IsInTree, met_in_tree, met_of_level, tree_met}
 use Rattle.qx_view.specs.Images.{image_blocks, main_roots}
@@ -232,7 +233,7 @@ module _ (m : BlockMap) (s : Superblock) (g : Geometry) (which : Which) (of : Is
       by_owner : (o : Owner) (node : Root) → HasNode m (main_roots s) t o node → Contains (visits_of m node) v → ((first_block g which ≤ v.block) × (v.block < first_block g which + g.half)) ⊎ (2 * g.half ≤ v.block)
       by_owner OfInodes node has met = inl (root_in_half false v (subst (λ x. Contains (visits_of m x) v) has met))
       by_owner OfLongfile node has met = outer v.block (outer_has m (main_roots s) t room is s.longfile v (longfile_outer m (main_roots s) t room is) (subst (λ x. Contains (visits_of m x) v) has met))
-      by_owner (OfFurther zero) node has met = let one : s.bitmap ≡ node = some_same s.bitmap node has in inl (root_in_half true v (subst (λ x. Contains (visits_of m x) v) (sym one) met))
+      by_owner (OfFurther zero) node has met = let one : s.bitmap ≡ node = same_Some s.bitmap node has in inl (root_in_half true v (subst (λ x. Contains (visits_of m x) v) (sym one) met))
       by_owner (OfFurther (suc k)) node has met = absurd (cc)
       by_owner (OfInode n) node (e, at, some, root) met = outer v.block (outer_has m (main_roots s) t room is _ v (inode_outer m (main_roots s) t room is n e at some) (subst (λ x. Contains (visits_of m x) v) root met))
 
@@ -249,7 +250,7 @@ pub record SoundParts (img : List ℕ) (t : Tree) (which : Which) (s : Superbloc
 pub sound_parts : (img : List ℕ) (t : Tree) (which : Which) (s : Superblock) (g : Geometry) → IsSound img t → active_area img ≡ picks.Active which → active_super img ≡ Some s → written_geometry s (length img) ≡ Some g → SoundParts img t which s g
 sound_parts img t which s g sound active names written =
     let area : sound.area ≡ which = (let e : picks.Active sound.area ≡ picks.Active which = sym sound.active ∙ active in cc) in
-    let same : sound.superblock ≡ s = some_same sound.superblock s (sym sound.names ∙ names) in
+    let same : sound.superblock ≡ s = same_Some sound.superblock s (sym sound.names ∙ names) in
     let no_reason : reason_of (image_blocks img s) s which (length img) ≡ None = subst (λ x. reason_of (image_blocks img x) x which (length img) ≡ None) same (subst (λ w. reason_of (image_blocks img sound.superblock) sound.superblock w (length img) ≡ None) area sound.no_reason) in
     record {
       size = HasSize-image_blocks img s names;

@@ -105,14 +105,6 @@ members_filter p (y ∷ ys) x c e = elim (Contains-cases y x ys c) [
     later true c = Contains-cons y x (filter p ys) c
     later false c = c
 
--- a member of the image is the image of a member
-pub map_members : {X A : Type 0} (f : X → A) (xs : List X) (y : A) → Contains (map f xs) y → (x : X) × Contains xs x × (f x ≡ y)
-map_members f [] y c = absurd (omega (arith, c.1))
-map_members f (x ∷ xs) y c = elim (Contains-cases (f x) y (map f xs) c) [
-  | inl here ↦ (x, Contains-head x xs, here)
-  | inr there ↦ let r = map_members f xs y there in (r.0, Contains-cons x r.0 xs r.1, r.2)
-]
-
 -- and the image of a member is one of the image
 pub members_map : {X A : Type 0} (f : X → A) (xs : List X) (x : X) → Contains xs x → Contains (map f xs) (f x)
 members_map f [] x c = absurd (omega (arith, c.1))

@@ -1,8 +1,9 @@
 -- Where no test of the walk fails, no block stands at two positions, and the tree is whole.
-use Rattle.std.proofs.Common.{◌≡◌, ℕ, zero, suc, ◌+◌, ◌/◌, inl, inr, List, [], ◌∷◌, ◌++◌, length, refl, sym, ◌∙◌, ap, subst, arith}
+use Rattle.std.proofs.Common.{◌≡◌, ℕ, zero, suc, ◌+◌, ◌/◌, inl, inr, List, [], ◌∷◌, ◌++◌, length, refl, sym, ◌∙◌, ap, subst, arith, append-nil}
 use Rattle.std.specs.Prelude.{Bool, true, false, ◌&&◌, not, ◌==◌, if◌then◌else◌, Option, Some, None, is_some, unwrap_or, option_to_list, Contains, map, flat_map, slice_get}
 use Rattle.std.specs.List.{list_all}
 use Rattle.std.proofs.lemmas.List.Elements.{Contains-append_left, Contains-append_right}
+use Rattle.std.proofs.lemmas.List.{map-append}
 use Rattle.qx_geom.specs.declared.root.Root.{Root}
 use Rattle.qx_records.specs.declared.kind.Kind.{Kind}
 use Rattle.qx_records.specs.declared.kind.Kind.TheVariants as kinds
@@ -24,17 +25,13 @@ use Rattle.qx_view.proofs.WalkEnds.{inodes}
 use Rattle.qx_view.specs.Images.{Roots, has_inode, long_name, raw_of, record_block}
 use Rattle.qx_view.specs.Reading.{HasNode, IsApart, IsTreeOf, IsUndamaged, OfFurther, OfInode, OfInodes, OfLongfile, Owner, StandsAt, slot_of}
 use Rattle.qx_view.specs.Walk.{Met, Place, Taken, Test, Tested, finding_of, inode_mode, inode_root, inode_tests, is_directory_inode, kind_tests, met_of, named_inode, node_tests, record_tests, records_tests, root_tests, row_tests, slot_name, taken_of, tests_of, top_tests, visit_tests}
+use Rattle.qx_view.proofs.AlikeLists.{members_map, members_flat_map}
 
 -- what tests end to end meet
 met_of-append : (as' bs : List Test) → met_of (as' ++ bs) ≡ met_of as' ++ met_of bs
 met_of-append [] bs = refl
 met_of-append (Tested c i b p ∷ as') bs = met_of-append as' bs
 met_of-append (Met i b ∷ as') bs = ap (λ z. b ∷ z) (met_of-append as' bs)
-
--- numbers of lists end to end
-map-append : {A : Type 0} (f : A → ℕ) (xs ys : List A) → map f (xs ++ ys) ≡ map f xs ++ map f ys
-map-append f [] ys = refl
-map-append f (x ∷ xs) ys = ap (λ z. f x ∷ z) (map-append f xs ys)
 
 -- the number of an element is one of the numbers
 in_map : {A : Type 0} (f : A → ℕ) (xs : List A) (x : A) → Contains xs x → is_in (map f xs) (f x) ≡ true
@@ -129,11 +126,6 @@ met_records m r d p node names listed (k ∷ ks) =
     met_of-append (record_tests m r (record { inode = d; parent = p; block = record_block m node k }) names listed (raw_of m node k)) _
     ∙ (λ i. met_record m r (record { inode = d; parent = p; block = record_block m node k }) names listed (raw_of m node k) i ++ met_records m r d p node (slot_name (slot_of m r.longfile (raw_of m node k)) ++ names) (option_to_list (named_inode m r.longfile (raw_of m node k)) ++ listed) ks i)
 
--- nothing at the end
-append_nil : (xs : List ℕ) → xs ++ [] ≡ xs
-append_nil [] = refl
-append_nil (x ∷ xs) = ap (λ z. x ∷ z) (append_nil xs)
-
 -- of an inode of a kind
 met_kind : (m : BlockMap) (r : Roots) (t : Taken) (k : Option Kind) → met_of (kind_tests m r t (inode_root m r t.inode) k) ≡ map block_at (placed_kind m r t.inode k)
 met_kind m r t None = refl
@@ -141,12 +133,12 @@ met_kind m r t (Some kinds.Special) = refl
 met_kind m r t (Some kinds.File) = met_node m t.inode (OfInode t.inode) (inode_root m r t.inode) (levels_fit m (inode_root m r t.inode))
 met_kind m r t (Some kinds.Link) =
     met_of-append (node_tests m t.inode (inode_root m r t.inode) (levels_fit m (inode_root m r t.inode))) _
-    ∙ append_nil (met_of (node_tests m t.inode (inode_root m r t.inode) (levels_fit m (inode_root m r t.inode))))
+    ∙ append-nil (met_of (node_tests m t.inode (inode_root m r t.inode) (levels_fit m (inode_root m r t.inode))))
     ∙ met_node m t.inode (OfInode t.inode) (inode_root m r t.inode) (levels_fit m (inode_root m r t.inode))
 met_kind m r t (Some kinds.Directory) =
     met_of-append (node_tests m t.inode (inode_root m r t.inode) (levels_fit m (inode_root m r t.inode))) (records_tests m r t.inode t.parent (inode_root m r t.inode) [] t.listed (each_below ((inode_root m r t.inode).size / 32) (λ k. k)))
     ∙ ap (λ z. met_of (node_tests m t.inode (inode_root m r t.inode) (levels_fit m (inode_root m r t.inode))) ++ z) (met_records m r t.inode t.parent (inode_root m r t.inode) [] t.listed (each_below ((inode_root m r t.inode).size / 32) (λ k. k)))
-    ∙ append_nil (met_of (node_tests m t.inode (inode_root m r t.inode) (levels_fit m (inode_root m r t.inode))))
+    ∙ append-nil (met_of (node_tests m t.inode (inode_root m r t.inode) (levels_fit m (inode_root m r t.inode))))
     ∙ met_node m t.inode (OfInode t.inode) (inode_root m r t.inode) (levels_fit m (inode_root m r t.inode))
 
 -- of those that are taken
@@ -170,27 +162,9 @@ met_all m r =
     let z : List (Owner × Visit) = placed_further m 0 r.further in
     let w : List (Owner × Visit) = flat_map (placed_taken m r) (taken_of m r) in
     met_of-append (a ++ b ++ c ++ d) e
-    ∙ ap (λ q. q ++ met_of e) (met_of-append (a ++ b ++ c) d ∙ append_nil (met_of (a ++ b ++ c)) ∙ met_of-append (a ++ b) c ∙ ap (λ q. q ++ met_of c) (met_of-append a b))
+    ∙ ap (λ q. q ++ met_of e) (met_of-append (a ++ b ++ c) d ∙ append-nil (met_of (a ++ b ++ c)) ∙ met_of-append (a ++ b) c ∙ ap (λ q. q ++ met_of c) (met_of-append a b))
     ∙ (λ i. met_node m 0 OfInodes r.inodes (root_fits m r.inodes) i ++ met_node m 0 OfLongfile r.longfile (root_fits m r.longfile) i ++ met_further m 0 r.further i ++ met_taken m r (taken_of m r) i)
     ∙ sym (map-append block_at (x ++ y ++ z) w ∙ ap (λ q. q ++ map block_at w) (map-append block_at (x ++ y) z ∙ ap (λ q. q ++ map block_at z) (map-append block_at x y)))
-
--- an element's image
-Contains-map : {A B : Type 0} (f : A → B) (xs : List A) (x : A) → Contains xs x → Contains (map f xs) (f x)
-Contains-map f [] x c = absurd (omega (arith, c.1))
-Contains-map f (y ∷ xs) x c =
-    elim (Contains-cases y x xs c) [
-      | inl is ↦ subst (λ z. Contains (map f (y ∷ xs)) (f z)) is (Contains-head (f y) (map f xs))
-      | inr there ↦ Contains-cons (f y) (f x) (map f xs) (Contains-map f xs x there)
-    ]
-
--- an element of an element's part
-Contains-flat : {A B : Type 0} (f : A → List B) (xs : List A) (x : A) (y : B) → Contains xs x → Contains (f x) y → Contains (flat_map f xs) y
-Contains-flat f [] x y c d = absurd (omega (arith, c.1))
-Contains-flat f (z ∷ xs) x y c d =
-    elim (Contains-cases z x xs c) [
-      | inl is ↦ Contains-append_left (f z) (flat_map f xs) y (subst (λ w. Contains (f w) y) (sym is) d)
-      | inr there ↦ Contains-append_right (f z) (flat_map f xs) y (Contains-flat f xs x y there d)
-    ]
 
 -- a position of a further node
 further_placed : (m : BlockMap) (k j : ℕ) (nodes : List Root) (node : Root) (v : Visit) → slice_get nodes j ≡ Some node → Contains (visits_of m node) v → Contains (placed_further m k nodes) (OfFurther (k + j), v)
@@ -198,7 +172,7 @@ further_placed m k j [] node v e c = absurd (cc)
 further_placed m k zero (x ∷ nodes) node v e c =
     let is : x ≡ node = cc in
     Contains-append_left (placed m (OfFurther k) x) (placed_further m (suc k) nodes) (OfFurther (k + 0), v)
-    (subst (λ z. Contains (placed m (OfFurther k) x) (OfFurther z, v)) (omega arith) (Contains-map (λ v. (OfFurther k, v)) (visits_of m x) v (subst (λ z. Contains (visits_of m z) v) (sym is) c)))
+    (subst (λ z. Contains (placed m (OfFurther k) x) (OfFurther z, v)) (omega arith) (members_map (λ v. (OfFurther k, v)) (visits_of m x) v (subst (λ z. Contains (visits_of m z) v) (sym is) c)))
 further_placed m k (suc j) (x ∷ nodes) node v e c =
     Contains-append_right (placed m (OfFurther k) x) (placed_further m (suc k) nodes) (OfFurther (k + suc j), v)
     (subst (λ z. Contains (placed_further m (suc k) nodes) (OfFurther z, v)) (omega arith) (further_placed m (suc k) j nodes node v e c))
@@ -237,9 +211,9 @@ module _ (m : BlockMap) (r : Roots) (s : HasSize m) (none : finding_of m r ≡ N
           → NodePasses m (inode_root m r n) (levels_fit m (inode_root m r n)) × ((v : Visit) → Contains (visits_of m (inode_root m r n)) v → Contains (placed_kind m r n o) (OfInode n, v))
       go None t p f = absurd (cc)
       go (Some kinds.Special) t p f = absurd (cc)
-      go (Some kinds.File) t p f = (node_passes m t.inode (inode_root m r n) (levels_fit m (inode_root m r n)) p, λ v c. Contains-map (λ v. (OfInode n, v)) (visits_of m (inode_root m r n)) v c)
-      go (Some kinds.Link) t p f = (node_passes m t.inode (inode_root m r n) (levels_fit m (inode_root m r n)) (passing_parts (node_tests m t.inode (inode_root m r n) (levels_fit m (inode_root m r n))) _ p).0, λ v c. Contains-map (λ v. (OfInode n, v)) (visits_of m (inode_root m r n)) v c)
-      go (Some kinds.Directory) t p f = (node_passes m t.inode (inode_root m r n) (levels_fit m (inode_root m r n)) (passing_parts (node_tests m t.inode (inode_root m r n) (levels_fit m (inode_root m r n))) _ p).0, λ v c. Contains-map (λ v. (OfInode n, v)) (visits_of m (inode_root m r n)) v c)
+      go (Some kinds.File) t p f = (node_passes m t.inode (inode_root m r n) (levels_fit m (inode_root m r n)) p, λ v c. members_map (λ v. (OfInode n, v)) (visits_of m (inode_root m r n)) v c)
+      go (Some kinds.Link) t p f = (node_passes m t.inode (inode_root m r n) (levels_fit m (inode_root m r n)) (passing_parts (node_tests m t.inode (inode_root m r n) (levels_fit m (inode_root m r n))) _ p).0, λ v c. members_map (λ v. (OfInode n, v)) (visits_of m (inode_root m r n)) v c)
+      go (Some kinds.Directory) t p f = (node_passes m t.inode (inode_root m r n) (levels_fit m (inode_root m r n)) (passing_parts (node_tests m t.inode (inode_root m r n) (levels_fit m (inode_root m r n))) _ p).0, λ v c. members_map (λ v. (OfInode n, v)) (visits_of m (inode_root m r n)) v c)
 
   -- each pointer of the tree is a block's number
   undamaged : IsUndamaged m r (tree_found m r)
@@ -254,12 +228,12 @@ module _ (m : BlockMap) (r : Roots) (s : HasSize m) (none : finding_of m r ≡ N
       Contains-append_left (placed m OfInodes r.inodes ++ placed m OfLongfile r.longfile ++ placed_further m 0 r.further) (flat_map (placed_taken m r) (taken_of m r)) (OfInodes, v)
       (Contains-append_left (placed m OfInodes r.inodes ++ placed m OfLongfile r.longfile) (placed_further m 0 r.further) (OfInodes, v)
       (Contains-append_left (placed m OfInodes r.inodes) (placed m OfLongfile r.longfile) (OfInodes, v)
-      (Contains-map (λ v. (OfInodes, v)) (visits_of m r.inodes) v (subst (λ z. Contains (visits_of m z) v) is c))))
+      (members_map (λ v. (OfInodes, v)) (visits_of m r.inodes) v (subst (λ z. Contains (visits_of m z) v) is c))))
   stands_placed OfLongfile v (node, is, c) =
       Contains-append_left (placed m OfInodes r.inodes ++ placed m OfLongfile r.longfile ++ placed_further m 0 r.further) (flat_map (placed_taken m r) (taken_of m r)) (OfLongfile, v)
       (Contains-append_left (placed m OfInodes r.inodes ++ placed m OfLongfile r.longfile) (placed_further m 0 r.further) (OfLongfile, v)
       (Contains-append_right (placed m OfInodes r.inodes) (placed m OfLongfile r.longfile) (OfLongfile, v)
-      (Contains-map (λ v. (OfLongfile, v)) (visits_of m r.longfile) v (subst (λ z. Contains (visits_of m z) v) is c))))
+      (members_map (λ v. (OfLongfile, v)) (visits_of m r.longfile) v (subst (λ z. Contains (visits_of m z) v) is c))))
   stands_placed (OfFurther k) v (node, at, c) =
       Contains-append_left (placed m OfInodes r.inodes ++ placed m OfLongfile r.longfile ++ placed_further m 0 r.further) (flat_map (placed_taken m r) (taken_of m r)) (OfFurther k, v)
       (Contains-append_right (placed m OfInodes r.inodes ++ placed m OfLongfile r.longfile) (placed_further m 0 r.further) (OfFurther k, v)
@@ -268,7 +242,7 @@ module _ (m : BlockMap) (r : Roots) (s : HasSize m) (none : finding_of m r ≡ N
       let o : OwnNode n node = own_node n node h in
       let u : TakenWith (taken_of m r) n (parent_in (taken_of m r) n) = it_of m r s none n o.walked in
       Contains-append_right (placed m OfInodes r.inodes ++ placed m OfLongfile r.longfile ++ placed_further m 0 r.further) (flat_map (placed_taken m r) (taken_of m r)) (OfInode n, v)
-      (Contains-flat (placed_taken m r) (taken_of m r) u.it (OfInode n, v) u.among (subst (λ z. Contains (placed_kind m r z (kind_of (inode_mode m r z))) (OfInode n, v)) (sym u.inode) (o.placed v c)))
+      (members_flat_map (placed_taken m r) (taken_of m r) u.it (OfInode n, v) u.among (subst (λ z. Contains (placed_kind m r z (kind_of (inode_mode m r z))) (OfInode n, v)) (sym u.inode) (o.placed v c)))
 
   -- no block stands at two positions of the tree
   apart : IsApart m r (tree_found m r)

@@ -1,5 +1,5 @@
 -- Ranges, and parts end to end, as ascending lists; ascending lists with the same members are one.
-use Rattle.std.proofs.Common.{◌≡◌, ℕ, zero, suc, ◌+◌, ◌<◌, ◌≤◌, inl, inr, List, [], ◌∷◌, refl, subst, arith}
+use Rattle.std.proofs.Common.{◌≡◌, ℕ, zero, suc, ◌+◌, ◌<◌, ◌≤◌, inl, inr, List, [], ◌∷◌, subst, arith}
 use Rattle.std.specs.Prelude.{Contains, flat_map}
 use Rattle.std.specs.List.{range_with_len}
 use Rattle.std.proofs.lemmas.Bool.{cases_lt}
@@ -35,20 +35,3 @@ flat_ascends f [] a each above = tt
 flat_ascends f (i ∷ xs) a each above =
     ascending-append (f i) (flat_map f xs) (each i) (flat_ascends f xs a.1 each above)
     (λ x y c d. let at = flat_map_members f xs y d in above i at.0 x y (a.0 at.0 at.1) c at.2)
-
--- ascending lists with the same members are one
-pub ascending_same : (xs ys : List ℕ) → IsAscending xs → IsAscending ys → ((x : ℕ) → Contains xs x → Contains ys x) → ((x : ℕ) → Contains ys x → Contains xs x) → xs ≡ ys
-ascending_same [] [] a b to from = refl
-ascending_same [] (y ∷ ys) a b to from = absurd (let c : Contains [] y = from y (Contains-head y ys) in omega (arith, c.1))
-ascending_same (x ∷ xs) [] a b to from = absurd (let c : Contains [] x = to x (Contains-head x xs) in omega (arith, c.1))
-ascending_same (x ∷ xs) (y ∷ ys) a b to from =
-    let low : y ≤ x = least y x ys b.0 (to x (Contains-head x xs)) in
-    let high : x ≤ y = least x y xs a.0 (from y (Contains-head y ys)) in
-    let same : x ≡ y = omega arith in
-    λ i. same i ∷ ascending_same xs ys a.1 b.1 (λ z c. rest y z ys (to z (Contains-cons x z xs c)) (let h : x < z = a.0 z c in omega arith)) (λ z c. rest x z xs (from z (Contains-cons y z ys c)) (let h : y < z = b.0 z c in omega arith)) i
-  where
-    least : (h z : ℕ) (zs : List ℕ) → ((w : ℕ) → Contains zs w → h < w) → Contains (h ∷ zs) z → h ≤ z
-    least h z zs above c = elim (Contains-cases h z zs c) [ inl is ↦ omega arith | inr there ↦ let lt : h < z = above z there in omega arith ]
-
-    rest : (h z : ℕ) (zs : List ℕ) → Contains (h ∷ zs) z → h < z → Contains zs z
-    rest h z zs c lt = elim (Contains-cases h z zs c) [ inl is ↦ absurd (omega arith) | inr there ↦ there ]

@@ -10,13 +10,13 @@ use Rattle.qx_geom.proofs.Members.{Contains-cons, Contains-head}
 use Rattle.qx_geom.proofs.Truths.{and_left, and_right, not_so, not_true, true_or_false}
 use Rattle.qx_geom.specs.Lists.{all_differ, is_in}
 use Rattle.qx_geom.specs.declared.root.Root.{Root}
+use Rattle.qx_geom.proofs.ImagesAndFilters.{Contains-image}
 use Rattle.qx_model.specs.Tree.{Slot, Tree, Unused, is_link, links_of, named_by, slots_of_body, slots_of_entry}
 use Rattle.qx_nodes.specs.BlockMap.{BlockMap}
 use Rattle.qx_nodes.specs.Content.{HasSize}
 use Rattle.qx_records.specs.InodeRecord.{kind_of}
 use Rattle.qx_records.specs.declared.kind.Kind.TheVariants as kinds
 use Rattle.qx_records.specs.declared.kind.Kind.{Kind}
-use Rattle.qx_view.proofs.AlikeLists.{map_members}
 use Rattle.qx_view.proofs.ApartPositions.{tree_is}
 use Rattle.qx_view.proofs.OneTree.{tree_unique}
 use Rattle.qx_view.proofs.TestsAndTree.{no_test_fails}
@@ -153,7 +153,7 @@ module _ (m : BlockMap) (r : Roots) (t : Tree) (size : HasSize m) (is : IsTreeOf
   -- each inode that the walk comes to has a place
   walked_within : (w : ℕ) → Contains (walked_inodes m r) w → (1 ≤ w) × (w < 1 + inode_places r)
   walked_within w c =
-      let u : (u : Taken) × Contains (taken_of m r) u × (u.inode ≡ w) = map_members (λ (x : Taken). x.inode) (taken_of m r) w c in
+      let u : (u : Taken) × Contains (taken_of m r) u × (u.inode ≡ w) = Contains-image (λ (x : Taken). x.inode) (taken_of m r) w c in
       let x : TakenIn m r t is u.0 = taken_in m r t is u.0 u.1 in
       let e = is.each u.0.inode x.entry x.at in
       let low : u.0.inode ≤ inode_places r = leb-true u.0.inode (inode_places r) e.there in

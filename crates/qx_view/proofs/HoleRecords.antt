@@ -15,6 +15,7 @@ use Rattle.qx_geom.proofs.PresentLeaves.{filter_ascends}
 use Rattle.qx_geom.proofs.Truths.{true_or_false}
 use Rattle.qx_geom.specs.Lists.{IsAscending, each_below, is_in}
 use Rattle.qx_geom.specs.declared.root.Root.{Root}
+use Rattle.qx_geom.proofs.AscendingLists.{ascending_same}
 use Rattle.qx_nodes.proofs.AbsentLeaves.{absent_bytes}
 use Rattle.qx_nodes.proofs.ContentLocality.{lies_below, reaches_of}
 use Rattle.qx_nodes.proofs.MetLeaves.{present_ascends}
@@ -22,8 +23,9 @@ use Rattle.qx_nodes.specs.BlockMap.{BlockMap}
 use Rattle.qx_nodes.specs.Content.{HasSize, levels_fit}
 use Rattle.qx_nodes.specs.Visits.{present_of}
 use Rattle.qx_records.specs.NameRecord.{RawRecord, Unused, raw_in}
+use Rattle.qx_view.specs.Sound.{are_zero}
 use Rattle.qx_view.proofs.AlikeLists.{below_members, filter_members, flat_map_members, members_filter, members_flat_map}
-use Rattle.qx_view.proofs.AscendingRanges.{ascending_same, flat_ascends, in_range, range_ascends, range_has}
+use Rattle.qx_view.proofs.AscendingRanges.{flat_ascends, in_range, range_ascends, range_has}
 use Rattle.qx_view.proofs.TreeLocality.{record_below}
 use Rattle.qx_view.specs.Images.{IsInHole, Roots, leaf_records, present_records, raw_of, record_block}
 use Rattle.qx_view.specs.Reading.{slot_of}
@@ -34,6 +36,11 @@ use Rattle.qx_view.specs.Walk.{Test, named_inode, record_tests, records_tests, s
 -- so many zeros
 abbrev zeros : ℕ → List ℕ
 zeros n = replicate n 0
+
+-- bytes 0 are 0
+pub are_zero-replicate : (n : ℕ) → are_zero (replicate n 0) ≡ true
+are_zero-replicate zero = refl
+are_zero-replicate (suc n) = are_zero-replicate n
 
 -- a piece of zeros is zeros
 slice_zeros : (n a b : ℕ) → (c : ℕ) × (slice_range (zeros n) a b ≡ zeros c)

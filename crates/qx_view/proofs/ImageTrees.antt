@@ -3,6 +3,7 @@ use Rattle.std.proofs.Common.{◌≡◌, ℕ, ◌/◌, ◌<◌, ◌⊎◌, inl, 
 use Rattle.std.specs.Prelude.{Bool, true, false, ◌||◌, ◌==◌, if◌then◌else◌, Option, Some, None, option_and_then, Ok, Err, drop}
 use Rattle.std.specs.Result.{result_ok}
 use Rattle.std.proofs.lemmas.Bool.{eqb-true}
+use Rattle.std.proofs.lemmas.Option.{same_Some}
 use Rattle.qx_fields.specs.declared.order.Order.{Order}
 use Rattle.qx_fields.specs.Number.{field}
 use Rattle.qx_geom.proofs.Truths.{and_left}
@@ -61,7 +62,7 @@ area_size len None s e = absurd (cc)
 area_size len (Some bytes) s e = valid_size bytes len s e
 
 -- a superblock that counts where it says that it stands is one
-only_from : (place : ℕ) (o : Option Superblock) (s : Superblock) → only_at place o ≡ Some s → o ≡ Some s
+pub only_from : (place : ℕ) (o : Option Superblock) (s : Superblock) → only_at place o ≡ Some s → o ≡ Some s
 only_from place None s e = e
 only_from place (Some x) s e = go (second_place_of x == place) e
   where
@@ -91,14 +92,10 @@ HasSize-image_blocks img s e =
     ]) in
     record { size = fits.0; words = fits.1 }
 
--- what is there is one thing
-pub some_same : {A : Type 0} (x y : A) → Some x ≡ Some y → x ≡ y
-some_same x y e = cc
-
 -- an image has one tree at most
 pub image_tree_unique : (img : List ℕ) (t u : Tree) → IsTree img t → IsTree img u → t ≡ u
 image_tree_unique img t u (s, is, tree) (z, also, other) =
-    let same : s ≡ z = some_same s z (sym is ∙ also) in
+    let same : s ≡ z = same_Some s z (sym is ∙ also) in
     tree_unique (image_blocks img z) (main_roots z) t u (subst (λ x. IsTreeOf (image_blocks img x) (main_roots x) t) same tree) other
 
 -- images with one active superblock that agree on each block which the tree holds have the same tree
@@ -115,5 +112,5 @@ no_finding_tree img s is none = (tree_found (image_blocks img s) (main_roots s),
 -- where the image has a tree, no test fails
 pub tree_no_finding : (img : List ℕ) (t : Tree) (s : Superblock) → active_super img ≡ Some s → IsTree img t → finding_of (image_blocks img s) (main_roots s) ≡ None
 tree_no_finding img t s is (z, also, tree) =
-    let same : z ≡ s = some_same z s (sym also ∙ is) in
+    let same : z ≡ s = same_Some z s (sym also ∙ is) in
     no_test_fails (image_blocks img s) (main_roots s) t (HasSize-image_blocks img s is) (subst (λ x. IsTreeOf (image_blocks img x) (main_roots x) t) same tree)

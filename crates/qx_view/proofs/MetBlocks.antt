@@ -1,14 +1,14 @@
 -- The walk comes to the blocks that the tree holds, to each once, and to no other.
 use Rattle.std.proofs.Common.{◌≡◌, ℕ, ◌↔◌, List, [], ◌∷◌, sym, subst}
 use Rattle.std.specs.Prelude.{true, not, Contains, map}
-use Rattle.qx_geom.proofs.ImagesAndFilters.{in_Contains}
+use Rattle.qx_geom.proofs.ImagesAndFilters.{in_Contains, Contains-image}
 use Rattle.qx_geom.proofs.Truths.{and_left, and_right, not_true, true_or_false}
 use Rattle.qx_geom.specs.Lists.{Distinct, all_differ, is_in}
 use Rattle.qx_model.specs.Tree.{Tree}
 use Rattle.qx_nodes.specs.BlockMap.{BlockMap}
 use Rattle.qx_nodes.specs.Content.{HasSize}
 use Rattle.qx_nodes.specs.Visits.{Visit}
-use Rattle.qx_view.proofs.AlikeLists.{map_members, members_map}
+use Rattle.qx_view.proofs.AlikeLists.{members_map}
 use Rattle.qx_view.proofs.ApartPositions.{all_placed, block_at, met_all, stands_placed, tree_is}
 use Rattle.qx_view.proofs.OneTree.{tree_unique}
 use Rattle.qx_view.proofs.TestsAndTree.{met_differ, no_test_fails, placed_stands}
@@ -28,7 +28,7 @@ differ_distinct (x ∷ xs) e = (
 -- a block that the walk meets is held
 met_is_held : (m : BlockMap) (r : Roots) (t : Tree) (b : ℕ) → HasSize m → IsTreeOf m r t → Contains (met_blocks m r) b → IsHeld m r t b
 met_is_held m r t b size is c =
-    let x : (x : Owner × Visit) × Contains (all_placed m r) x × (block_at x ≡ b) = map_members block_at (all_placed m r) b (subst (λ z. Contains z b) (met_all m r) c) in
+    let x : (x : Owner × Visit) × Contains (all_placed m r) x × (block_at x ≡ b) = Contains-image block_at (all_placed m r) b (subst (λ z. Contains z b) (met_all m r) c) in
     (x.0.0, x.0.1, placed_stands m r t size is x.0 x.1, x.2)
 
 -- and a held block is met

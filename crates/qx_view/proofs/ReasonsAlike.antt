@@ -3,7 +3,7 @@ use Rattle.std.proofs.Common.{◌≡◌, inl, inr, ℕ, zero, suc, ◌+◌, ◌-
 use Rattle.std.specs.Prelude.{Bool, true, false, not, ◌&&◌, ◌||◌, ◌==◌, Some, None, Contains, count_by, drop, filter, filter_map, flat_map, if◌then◌else◌, slice_get, slice_index}
 use Rattle.std.specs.Int.{bit_at}
 use Rattle.std.specs.List.{find, range_with_len}
-use Rattle.std.proofs.lemmas.Bool.{cases_lt, eqb-false, eqb-true, le-leb}
+use Rattle.std.proofs.lemmas.Bool.{cases_lt, eqb-false, eqb-true, le-leb, not-false}
 use Rattle.std.proofs.lemmas.Nat.{div-add-mod', mul-le}
 use Rattle.qx_geom.proofs.Truths.{not_true, or_left, or_right}
 use Rattle.qx_geom.specs.Lists.{each_below, first_below, is_in}
@@ -84,7 +84,7 @@ module _ (m : BlockMap) (g : ℕ → List ℕ) (r : Roots) (t : Tree) (size : Ha
   has_two large node right =
       let some : (node.size == 0) ≡ false = or_left (node.size == 0) _ right in
       let rest : (not (node.size % m.size == 0) || not (length (present_of m node) == node.size / m.size)) ≡ false = or_right (node.size == 0) _ right in
-      let whole : node.size % m.size ≡ 0 = eqb-true (node.size % m.size) 0 (no_not (node.size % m.size == 0) (or_left (not (node.size % m.size == 0)) _ rest)) in
+      let whole : node.size % m.size ≡ 0 = eqb-true (node.size % m.size) 0 (not-false (node.size % m.size == 0) (or_left (not (node.size % m.size == 0)) _ rest)) in
       let split : node.size / m.size * m.size + node.size % m.size ≡ node.size = div-add-mod' node.size m.size in
       elim (cases_lt (node.size / m.size) 1) [
         | inl none ↦
@@ -92,10 +92,6 @@ module _ (m : BlockMap) (g : ℕ → List ℕ) (r : Roots) (t : Tree) (size : Ha
             absurd (eqb-false node.size 0 some (omega arith))
         | inr one ↦ let times : 1 * m.size ≤ node.size / m.size * m.size = mul-le 1 m.size (node.size / m.size) m.size one (omega arith) in omega arith
       ]
-    where
-      no_not : (b : Bool) → not b ≡ false → b ≡ true
-      no_not true e = refl
-      no_not false e = absurd (cc)
 
   -- where its node isn't foreign, a directory's isn't either
   directory_right : (n : ℕ) → 0 < n → is_in (walked_inodes m r) n ≡ true → is_directory_inode m r n ≡ true → fails_nodes m r (walked_inodes m r) n ≡ false → is_foreign_directory m (inode_root m r n) ≡ false

@@ -3,6 +3,7 @@ use Rattle.std.proofs.Common.{◌≡◌, ℕ, ◌*◌, ◌/◌, ◌^◌, ◌<◌
 use Rattle.std.specs.Prelude.{Bool, true, false, Option, Some, None, Result, Ok, Err, bytes_eq, ◌&&◌, ◌==◌, if◌then◌else◌}
 use Rattle.std.proofs.Math.Nat.{mul-div_cancel}
 use Rattle.std.proofs.lemmas.Bool.{cond-true, eqb-true, lt-ltb}
+use Rattle.std.proofs.lemmas.Option.{same_Some}
 use Rattle.qx_geom.proofs.Truths.{and_left, and_right}
 use Rattle.qx_geom.proofs.VolumeNumbers.{IsGeometry-keeps, geometry_of-numbers}
 use Rattle.qx_geom.specs.Layout.{geometry_of, system_root_of}
@@ -13,7 +14,6 @@ use Rattle.qx_model.specs.Tree.{Tree}
 use Rattle.qx_super.specs.Active.{active_super}
 use Rattle.qx_super.specs.Superblock.{Superblock}
 use Rattle.qx_view.proofs.ActiveHalf.{SoundParts, halves_right, sound_parts}
-use Rattle.qx_view.proofs.ImageTrees.{some_same}
 use Rattle.qx_view.proofs.SoundLocality.{geometry_there}
 use Rattle.qx_view.specs.Images.{image_blocks, places_in}
 use Rattle.qx_view.specs.Sound.{IsSound, geometry_if, is_laid_out, is_same_root, is_written_by, written_geometry}
@@ -40,7 +40,7 @@ places_of_size node n size few =
 pub sound_places : (img : List ℕ) (t : Tree) (s : Superblock) → IsSound img t → active_super img ≡ Some s → length t.inodes ≡ s.num_inodes
 unfolding system_root_of
 sound_places img t s sound names =
-    let same : sound.superblock ≡ s = some_same sound.superblock s (sym sound.names ∙ names) in
+    let same : sound.superblock ≡ s = same_Some sound.superblock s (sym sound.names ∙ names) in
     let g = geometry_there (image_blocks img sound.superblock) sound.superblock sound.area (written_geometry sound.superblock (length img)) sound.no_reason in
     with_geometry g.0 g.1 ∙ ap (λ (x : Superblock). x.num_inodes) same
   where

@@ -1,13 +1,13 @@
 -- No test of the walk fails exactly where the blocks have a tree.
 use Rattle.std.proofs.Common.{◌≡◌, ℕ, suc, ◌+◌, ◌<◌, inl, inr, List, [], ◌∷◌, ◌++◌, refl, sym, ◌∙◌, ap, subst, arith}
-use Rattle.std.specs.Prelude.{true, not, Option, Some, None, Contains, map, flat_map, slice_get}
+use Rattle.std.specs.Prelude.{true, not, Option, Some, None, Contains, flat_map, slice_get}
 use Rattle.std.specs.List.{list_all}
 use Rattle.std.proofs.lemmas.List.Elements.{Contains-append_cases}
 use Rattle.qx_geom.specs.declared.root.Root.{Root}
+use Rattle.qx_geom.proofs.ImagesAndFilters.{Contains-image}
 use Rattle.qx_records.specs.declared.kind.Kind.{Kind}
 use Rattle.qx_records.specs.declared.kind.Kind.TheVariants as kinds
 use Rattle.qx_geom.proofs.DistinctElements.{Distinct-append, Distinct-map, numbers_differ}
-use Rattle.qx_geom.proofs.Members.{Contains-cases, Contains-cons, Contains-head}
 use Rattle.qx_geom.proofs.Truths.{and_left, and_right, not_true, true_or_false}
 use Rattle.qx_geom.specs.Lists.{Distinct, all_differ, is_in}
 use Rattle.qx_geom.specs.Pointer.{per_block}
@@ -26,17 +26,9 @@ use Rattle.qx_view.specs.Images.{Roots, inode_places}
 use Rattle.qx_view.specs.Reading.{HasNode, IsBody, IsOfKind, IsTreeOf, OfFurther, OfInode, OfInodes, OfLongfile, Owner, StandsAt}
 use Rattle.qx_view.specs.Walk.{Taken, finding_of, inode_mode, inode_root, inode_tests, is_directory_inode, is_directory_kind, met_of, root_tests, taken_of, tests_of, top_tests}
 
--- an element of a list's image
-map-Contains : {A B : Type 0} (f : A → B) (xs : List A) (y : B) → Contains (map f xs) y → (x : A) × Contains xs x × (f x ≡ y)
-map-Contains f [] y c = absurd (omega (arith, c.1))
-map-Contains f (x ∷ xs) y c = elim (Contains-cases (f x) y (map f xs) c) [
-  | inl is ↦ (x, Contains-head x xs, is)
-  | inr there ↦ let r = map-Contains f xs y there in (r.0, Contains-cons x r.0 xs r.1, r.2)
-]
-
 -- a position of a node is its owner's
 placed_owner : (m : BlockMap) (o : Owner) (node : Root) (x : Owner × Visit) → Contains (placed m o node) x → (x.0 ≡ o) × Contains (visits_of m node) x.1
-placed_owner m o node x c = let r : (v : Visit) × Contains (visits_of m node) v × (◌≡◌ {A = Owner × Visit} (o, v) x) = map-Contains (λ v. (o, v)) (visits_of m node) x c in
+placed_owner m o node x c = let r : (v : Visit) × Contains (visits_of m node) v × (◌≡◌ {A = Owner × Visit} (o, v) x) = Contains-image (λ v. (o, v)) (visits_of m node) x c in
     (sym (ap (λ z. z.0) r.2), subst (λ z. Contains (visits_of m node) z) (ap (λ z. z.1) r.2) r.1)
 
 -- and none stands twice

@@ -1,8 +1,8 @@
 -- Where the blocks have a tree, each test of the walk passes but those of code 3.
 use Rattle.std.proofs.Common.{◌≡◌, ◌≢◌, ℕ, zero, suc, ◌+◌, ◌/◌, ◌<◌, ◌⊎◌, inl, inr, List, [], ◌∷◌, ◌++◌, length, refl, sym, ◌∙◌, ap, subst, arith}
-use Rattle.std.specs.Prelude.{Bool, true, false, ◌||◌, ◌&&◌, not, nat_eq, nat_lt, ◌==◌, if◌then◌else◌, Option, Some, None, is_some, option_and_then, unwrap_or, option_to_list, Contains, map, flat_map, filter_map, bytes_eq, slice_get}
+use Rattle.std.specs.Prelude.{Bool, true, false, ◌&&◌, not, nat_eq, nat_lt, ◌==◌, if◌then◌else◌, Option, Some, None, is_some, option_and_then, unwrap_or, option_to_list, Contains, map, flat_map, filter_map, bytes_eq, slice_get}
 use Rattle.std.specs.List.{list_any}
-use Rattle.std.proofs.lemmas.Bool.{eqb-true, eq-eqb, lt-ltb}
+use Rattle.std.proofs.lemmas.Bool.{eqb-true, eq-eqb, lt-ltb, or_from}
 use Rattle.qx_geom.specs.declared.root.Root.{Root}
 use Rattle.qx_records.specs.declared.kind.Kind.{Kind}
 use Rattle.qx_records.specs.declared.kind.Kind.TheVariants as kinds
@@ -78,7 +78,7 @@ new_differ (n ∷ ns) listed = go (is_in listed n) (new_differ ns listed) (new_d
     go false old new = λ i. not (not_so (is_in (new_ones ns (n ∷ listed)) n) (λ t. true_or_false (is_in (n ∷ listed) n) (in_head n listed) (new_out ns (n ∷ listed) n t)) i) && new i
 
 -- numbers that differ, with others that do
-differ-append : (xs ys : List ℕ) → all_differ xs ≡ true → all_differ ys ≡ true → ((k : ℕ) → is_in xs k ≡ true → is_in ys k ≡ false) → all_differ (xs ++ ys) ≡ true
+pub differ-append : (xs ys : List ℕ) → all_differ xs ≡ true → all_differ ys ≡ true → ((k : ℕ) → is_in xs k ≡ true → is_in ys k ≡ false) → all_differ (xs ++ ys) ≡ true
 differ-append [] ys a b apart = b
 differ-append (x ∷ xs) ys a b apart =
     λ i. not (not_so (is_in (xs ++ ys) x) (λ t. elim (in_append_cases xs ys x t) [
@@ -203,11 +203,6 @@ same_bytes (x ∷ xs) (y ∷ ys) e = λ i. eqb-true x y (and_left (nat_eq x y) (
 zero_suc : (k : ℕ) → 0 ≡ suc k → ⊥
 zero_suc k e = omega arith
 
--- neither holds
-or_false : (a b : Bool) → a ≡ false → b ≡ false → (a || b) ≡ false
-or_false true b e f = e
-or_false false b e f = f
-
 -- the rows behind the first
 facts_tail : (m : BlockMap) (r : Roots) (d p : ℕ) (names : List (List ℕ)) (listed : List ℕ) (x : Slot) (slots : List Slot) → DirectoryFacts m r d p names listed (x ∷ slots) → DirectoryFacts m r d p (slot_name (Some x) ++ names) (option_to_list (named_by x) ++ listed) slots
 facts_tail m r d p names listed x slots f = record {
@@ -221,14 +216,14 @@ facts_tail m r d p names listed x slots f = record {
     by_name : (y : Slot) → x ≡ y → (k n : ℕ) (name : List ℕ) (long : Option ℕ) → slice_get slots k ≡ Some (Row n name long) → list_any (λ other. bytes_eq other name) (slot_name (Some y) ++ names) ≡ false
     by_name Unused is k n name long at = f.fresh (suc k) n name long at
     by_name (Row i other l) is k n name long at =
-        or_false (bytes_eq other name) (list_any (λ z. bytes_eq z name) names)
+        or_from (bytes_eq other name) (list_any (λ z. bytes_eq z name) names)
         (not_so (bytes_eq other name) (λ t. zero_suc k (f.differ 0 (suc k) i n name l long (ap (λ z. Some z) (is ∙ ap (λ z. Row i z l) (same_bytes other name t))) at)))
         (f.fresh (suc k) n name long at)
 
     by_named : (o : Option ℕ) → named_by x ≡ o → (k n : ℕ) (s : Slot) → slice_get slots k ≡ Some s → named_by s ≡ Some n → is_directory_inode m r n ≡ true → is_in (option_to_list o ++ listed) n ≡ false
     by_named None is k n s at g dir = f.new (suc k) n s at g dir
     by_named (Some i) is k n s at g dir =
-        or_false (nat_eq i n) (is_in listed n)
+        or_from (nat_eq i n) (is_in listed n)
         (not_so (nat_eq i n) (λ t. zero_suc k (f.once 0 (suc k) n x s refl at (is ∙ ap (λ z. Some z) (eqb-true i n t)) g dir)))
         (f.new (suc k) n s at g dir)
 

@@ -1,13 +1,14 @@
 -- What the checker's verdict says of an image.
 use Rattle.std.proofs.Common.{◌≡◌, ℕ, inl, inr, List, length, refl, sym, ◌∙◌, ap}
 use Rattle.std.specs.Prelude.{Option, Some, None}
+use Rattle.std.proofs.lemmas.Option.{same_Some}
 use Rattle.qx_geom.specs.declared.area.Which.{Which}
 use Rattle.qx_model.specs.Tree.{Tree}
 use Rattle.qx_nodes.specs.BlockMap.{BlockMap}
 use Rattle.qx_super.specs.Active.{active_area, active_super}
 use Rattle.qx_super.specs.Superblock.{Superblock}
 use Rattle.qx_view.proofs.ApartPositions.{tree_is}
-use Rattle.qx_view.proofs.ImageTrees.{HasSize-image_blocks, some_same}
+use Rattle.qx_view.proofs.ImageTrees.{HasSize-image_blocks}
 use Rattle.qx_view.proofs.TestsAndTree.{no_test_fails}
 use Rattle.qx_view.proofs.TreeFound.{tree_found}
 use Rattle.qx_view.specs.Images.{Roots, image_blocks, main_roots}
@@ -69,7 +70,7 @@ sound_clean img t area s sound active names =
     let u : Superblock = sound.superblock in
     let m : BlockMap = image_blocks img u in
     let none : finding_of m (main_roots u) ≡ None = no_test_fails m (main_roots u) t (HasSize-image_blocks img u sound.names) sound.tree in
-    let same : u ≡ s = some_same u s (sym sound.names ∙ names) in
+    let same : u ≡ s = same_Some u s (sym sound.names ∙ names) in
     let which : sound.area ≡ area = (let e : picks.Active sound.area ≡ picks.Active area = sym sound.active ∙ active in cc) in
     ap (λ p. verdict_at img p) sound.active ∙ ap (λ o. verdict_with img sound.area o) sound.names
     ∙ (λ i. verdict_by sound.area u (none i) (sound.no_reason i) (sound.no_last i)) ∙ (λ i. Clean (which i) (same i))

@@ -1,7 +1,7 @@
 -- Where blocks agree on what a tree holds, the walk comes to the same inodes, and the nodes outside the halves meet the same blocks.
 use Rattle.std.proofs.Common.{◌≡◌, inl, inr, ℕ, zero, suc, ◌+◌, ◌/◌, List, [], ◌∷◌, ◌++◌, refl, ap, sym, ◌∙◌, subst}
 use Rattle.std.specs.Prelude.{Bool, true, false, not, Option, Some, None, Contains, IsTrue, map, filter, filter_map, flat_map, if◌then◌else◌, option_and_then, slice_get}
-use Rattle.qx_geom.proofs.ImagesAndFilters.{Contains-in}
+use Rattle.qx_geom.proofs.ImagesAndFilters.{Contains-in, Contains-image}
 use Rattle.qx_geom.proofs.Members.{Contains-cases, Contains-cons, Contains-head}
 use Rattle.qx_geom.proofs.Truths.{and_left, not_true}
 use Rattle.qx_geom.specs.Lists.{each_below, is_in}
@@ -16,7 +16,7 @@ use Rattle.qx_records.specs.InodeRecord.{kind_of}
 use Rattle.qx_records.specs.declared.inode.Inode.{Inode}
 use Rattle.qx_records.specs.declared.kind.Kind.TheVariants as kinds
 use Rattle.qx_records.specs.declared.kind.Kind.{Kind}
-use Rattle.qx_view.proofs.AlikeLists.{below_members, filter_alike, filter_map_alike, filter_members, flat_map_alike, map_alike, map_members}
+use Rattle.qx_view.proofs.AlikeLists.{below_members, filter_alike, filter_map_alike, filter_members, flat_map_alike, map_alike}
 use Rattle.qx_view.proofs.NodesAlike.{AgreesAt, raw_alike}
 use Rattle.qx_view.proofs.TestsFromTree.{TakenIn, kind_here, taken_in}
 use Rattle.qx_view.proofs.TreeLocality.{agrees, inode_same, longfile_reaches, not_special, record_below, slot_local}
@@ -46,7 +46,7 @@ module _ (m : BlockMap) (g : ℕ → List ℕ) (r : Roots) (t : Tree) (size : Ha
   -- an inode to which the walk comes is the tree's
   pub entered : (n : ℕ) → Contains (walked_inodes m r) n → (e : Entry) × (entry_of t n ≡ Some e)
   entered n c =
-      let u : (x : Taken) × Contains (taken_of m r) x × (x.inode ≡ n) = map_members (λ x. x.inode) (taken_of m r) n c in
+      let u : (x : Taken) × Contains (taken_of m r) x × (x.inode ≡ n) = Contains-image (λ x. x.inode) (taken_of m r) n c in
       let x : TakenIn m r t is u.0 = taken_in m r t is u.0 u.1 in
       (x.entry, subst (λ k. entry_of t k ≡ Some x.entry) u.2 x.at)
 
@@ -137,7 +137,7 @@ module _ (m : BlockMap) (g : ℕ → List ℕ) (r : Roots) (t : Tree) (size : Ha
   outer_agrees node c = elim (Contains-cases r.longfile node (map (inode_root m r) (filter (λ n. not (is_special_inode m r n)) (walked_inodes m r))) c) [
     | inl here ↦ subst (λ x. AgreesAt m g x) here longfile_agrees
     | inr there ↦
-        let n : (n : ℕ) × Contains (filter (λ n. not (is_special_inode m r n)) (walked_inodes m r)) n × (inode_root m r n ≡ node) = map_members (inode_root m r) (filter (λ n. not (is_special_inode m r n)) (walked_inodes m r)) node there in
+        let n : (n : ℕ) × Contains (filter (λ n. not (is_special_inode m r n)) (walked_inodes m r)) n × (inode_root m r n ≡ node) = Contains-image (inode_root m r) (filter (λ n. not (is_special_inode m r n)) (walked_inodes m r)) node there in
         let among : Contains (walked_inodes m r) n.0 × (not (is_special_inode m r n.0) ≡ true) = filter_members (λ n. not (is_special_inode m r n)) (walked_inodes m r) n.0 n.1 in
         let e : (e : Entry) × (entry_of t n.0 ≡ Some e) = entered n.0 among.0 in
         subst (λ x. AgreesAt m g x) n.2 (node_agrees n.0 e.0 e.1 (not_true (is_special_inode m r n.0) among.1))

@@ -1,9 +1,10 @@
 -- The walk through the list of inodes, from the first one to the end of the list.
-use Rattle.std.proofs.Common.{◌≡◌, ℕ, zero, suc, ◌+◌, ◌-◌, ◌%◌, ◌≤◌, List, [], ◌∷◌, ◌++◌, length, refl, sym, ◌∙◌, ap, subst, arith}
+use Rattle.std.proofs.Common.{◌≡◌, ℕ, zero, suc, ◌+◌, ◌-◌, ◌%◌, ◌≤◌, List, [], ◌∷◌, ◌++◌, length, refl, sym, ◌∙◌, ap, subst, arith, append-nil}
 use Rattle.std.specs.Prelude.{Bool, true, false, not, ◌&&◌, ◌||◌, ◌==◌, Some, Ok, Err, cond, count_by, drop, filter, flat_map, is_some, map, nat_eq, slice_get, if◌then◌else◌}
 use Rattle.std.proofs.lemmas.Bool.{eq-eqb}
 use Rattle.std.proofs.lemmas.List.Elements.{filter-append}
 use Rattle.std.proofs.lemmas.List.Sums.{sum_by-append}
+use Rattle.std.proofs.lemmas.Grind.{flat_map-append}
 use Rattle.qx_blockset.specs.Members.{Members, has, limit_of}
 use Rattle.qx_geom.specs.Lists.{is_in}
 use Rattle.qx_nodes.specs.BlockMap.{BlockMap}
@@ -27,6 +28,7 @@ use Rattle.qx_walk.specs.Inodes.{Begins, Done, Ends, Remembers, WalksInode, done
 use Rattle.qx_walk.specs.Rows.{begins_with_dots}
 use Rattle.qx_walk.specs.Tables.{HasListed, HoldsNames, pair_of}
 use Rattle.qx_walk.specs.Trees.{IsNoted}
+use Rattle.qx_walk.proofs.KeptNames.{or_swap}
 
 -- ---- counts of long-name numbers
 
@@ -34,29 +36,16 @@ use Rattle.qx_walk.specs.Trees.{IsNoted}
 count_append : (p : ℕ → Bool) (xs ys : List ℕ) → count_by p (xs ++ ys) ≡ count_by p xs + count_by p ys
 count_append p xs ys = sum_by-append (λ x. cond (p x) 1 0) xs ys
 
--- the parts of lists end to end
-flat_append : {A B : Type 0} (f : A → List B) (xs ys : List A) → flat_map f (xs ++ ys) ≡ flat_map f xs ++ flat_map f ys
-flat_append f [] ys = refl
-flat_append f (x ∷ xs) ys = ap (λ l. f x ++ l) (flat_append f xs ys) ∙ sym (assoc (f x) (flat_map f xs) (flat_map f ys))
-  where
-    assoc : {A : Type 0} (xs ys zs : List A) → (xs ++ ys) ++ zs ≡ xs ++ (ys ++ zs)
-    assoc [] ys zs = refl
-    assoc (x ∷ xs) ys zs = ap (λ l. x ∷ l) (assoc xs ys zs)
-
 -- the numbers that one more inode names come last
 named_more : (m : BlockMap) (r : Roots) (ns : List ℕ) (n : ℕ) → numbers_named m r (ns ++ n ∷ []) ≡ numbers_named m r ns ++ numbers_of m r n
 named_more m r ns n =
     let part : ℕ → List ℕ = λ d. numbers_named_in m (inode_root m r d) (all_records (inode_root m r d)) in
     ap (flat_map part) (filter-append (is_directory_inode m r) ns (n ∷ []))
-    ∙ flat_append part (filter (is_directory_inode m r) ns) (filter (is_directory_inode m r) (n ∷ []))
+    ∙ flat_map-append part (filter (is_directory_inode m r) ns) (filter (is_directory_inode m r) (n ∷ []))
     ∙ ap (λ (l : List ℕ). numbers_named m r ns ++ l) (last (is_directory_inode m r n))
   where
-    nil : (l : List ℕ) → l ++ [] ≡ l
-    nil [] = refl
-    nil (x ∷ l) = ap (λ z. x ∷ z) (nil l)
-
     last : (b : Bool) → flat_map (λ d. numbers_named_in m (inode_root m r d) (all_records (inode_root m r d))) (if b then n ∷ [] else []) ≡ (if b then numbers_named_in m (inode_root m r n) (all_records (inode_root m r n)) else [])
-    last true = nil _
+    last true = append-nil _
     last false = refl
 
 -- ---- on the way
@@ -97,12 +86,7 @@ length_more (u ∷ ts) t = omega (arith, length_more ts t)
 -- a list and one more
 in_last : (xs : List ℕ) (x n : ℕ) → is_in (xs ++ x ∷ []) n ≡ (nat_eq x n || is_in xs n)
 in_last [] x n = refl
-in_last (y ∷ xs) x n = ap (λ b. nat_eq y n || b) (in_last xs x n) ∙ turn (nat_eq y n) (nat_eq x n) (is_in xs n)
-  where
-    turn : (a b c : Bool) → (a || (b || c)) ≡ (b || (a || c))
-    turn true true c = refl
-    turn true false c = refl
-    turn false b c = refl
+in_last (y ∷ xs) x n = ap (λ b. nat_eq y n || b) (in_last xs x n) ∙ or_swap (nat_eq y n) (nat_eq x n) (is_in xs n)
 
 module _ (m : BlockMap) (r : Roots) (way : Way) (seen mid : Seen) (q : Queued) (rest : List (ℕ × ℕ)) (w : IsOnWay m r way seen) (first : w.done.queue ≡ pair_of q ∷ rest) where
   -- the walk with what is taken now

@@ -27,7 +27,7 @@ bytes_eq-sym xs ys = elim (cases_Bool (bytes_eq xs ys)) [
 ]
 
 -- what is met first doesn't matter
-or_swap : (a b r : Bool) → (a || (b || r)) ≡ (b || (a || r))
+pub or_swap : (a b r : Bool) → (a || (b || r)) ≡ (b || (a || r))
 or_swap true true r = refl
 or_swap true false r = refl
 or_swap false b r = refl

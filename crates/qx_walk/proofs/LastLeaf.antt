@@ -18,6 +18,7 @@ use Rattle.qx_nodes.specs.Content.{HasSize, bytes_at_leaf, leaf_bytes, levels_fi
 use Rattle.qx_nodes.specs.Leaves.{leaves_below}
 use Rattle.qx_nodes.specs.Visits.{LiesBelow, Visit, is_leaf, visits_of}
 use Rattle.qx_view.specs.Sound.{are_zero, has_tail}
+use Rattle.qx_view.proofs.HoleRecords.{are_zero-replicate}
 use Rattle.qx_walk.specs.Inodes.{tail_at}
 use Rattle.qx_pointers.specs.Parts.{end_of, is_end}
 
@@ -41,11 +42,6 @@ none_passes p (y ∷ ys) x e c = go (p y) refl e (none_passes p ys x)
       | inl same ↦ subst (λ z. p z ≡ false) same is
       | inr there ↦ more h there
     ]
-
--- bytes 0 are 0
-zeros_zero : (n : ℕ) → are_zero (replicate n 0) ≡ true
-zeros_zero zero = refl
-zeros_zero (suc n) = zeros_zero n
 
 -- a number that isn't 0
 some_past : (k : ℕ) → (k == 0) ≡ false → 0 < k
@@ -95,7 +91,7 @@ module _ (m : BlockMap) (node : Root) (sized : HasSize m) (fit : IsTrue (levels_
   by_end None false e is = sym (ap (λ x. not x && not (are_zero (drop past (leaf_bytes m node last)))) is
       ∙ ap (λ (bs : List ℕ). not (are_zero (drop past bs))) (no_bytes (some_past past is) e)
       ∙ ap (λ (bs : List ℕ). not (are_zero bs)) (drop-replicate past m.size 0)
-      ∙ ap not (zeros_zero (m.size - past)))
+      ∙ ap not (are_zero-replicate (m.size - past)))
   by_end (Some v) false e is = ap (λ (bs : List ℕ). not (past == 0) && not (are_zero (drop past bs))) (sym (block_bytes v (some_past past is) e))
 
   -- what the end of a node says of its tail

@@ -2,21 +2,22 @@
 use Rattle.std.proofs.Common.{◌≡◌, ℕ, zero, suc, ◌+◌, ◌-◌, ◌*◌, ◌/◌, ◌^◌, ◌<◌, inl, inr, List, [], ◌∷◌, ◌++◌, refl, sym, ◌∙◌, ap, subst, arith}
 use Rattle.std.specs.Prelude.{Bool, true, false, ◌||◌, ◌==◌, nat_le, nat_lt, if◌then◌else◌, Contains, filter, map, IsTrue, slice_index_or}
 use Rattle.std.proofs.Math.Nat.{mul-div_cancel}
-use Rattle.std.proofs.lemmas.Bool.{cases_lt, eqb-true, eq-eqb, leb-false, ne_eqb}
+use Rattle.std.proofs.lemmas.Bool.{cases_lt, eqb-true, eq-eqb, ne_eqb}
 use Rattle.std.proofs.lemmas.List.Elements.{filter-append}
 use Rattle.qx_geom.proofs.LevelCounts.{ceil_div-below}
-use Rattle.qx_geom.proofs.Members.{Contains-cases, parts-Contains}
+use Rattle.qx_geom.proofs.Members.{parts-Contains}
 use Rattle.qx_geom.specs.declared.root.Root.{Root}
 use Rattle.qx_geom.specs.Lists.{IsAscending, parts_below}
 use Rattle.qx_geom.specs.Pointer.{absent, per_block}
+use Rattle.qx_geom.proofs.ImagesAndFilters.{Contains-image}
 use Rattle.qx_nodes.proofs.ContentLocality.{lies_below, reaches_of}
 use Rattle.qx_nodes.proofs.LeafPaths.{node_leaf_met}
-use Rattle.qx_nodes.proofs.MetLeaves.{node_leaf_found, present_ascends}
+use Rattle.qx_nodes.proofs.MetLeaves.{node_leaf_found, present_ascends, under_low}
 use Rattle.qx_nodes.specs.BlockMap.{BlockMap, word}
 use Rattle.qx_nodes.specs.Content.{HasSize, levels_fit}
 use Rattle.qx_nodes.specs.Leaves.{Block, Damage, Hole, Leaf, leaf_of, leaves_below}
 use Rattle.qx_nodes.specs.Visits.{IsMet, LiesBelow, Visit, is_leaf, present_of, visits_of, visits_under}
-use Rattle.qx_view.proofs.AlikeLists.{filter_members, map_members, members_filter, members_map}
+use Rattle.qx_view.proofs.AlikeLists.{filter_members, members_filter, members_map}
 use Rattle.qx_pointers.specs.declared.node.LeafPlace.{LeafPlace}
 use Rattle.qx_pointers.specs.Parts.{place_of}
 use Rattle.qx_walk.specs.Tables.{AreLeaves}
@@ -39,7 +40,7 @@ numbers_present m node leaves a = ap numbers_of a.are ∙ numbers-places (filter
 -- a leaf of the list was met
 listed_visit : (m : BlockMap) (node : Root) (leaves : List LeafPlace) (p : LeafPlace) → AreLeaves m node leaves → Contains leaves p → (v : Visit) × Contains (visits_of m node) v × (v.level ≡ 0) × (place_of v ≡ p)
 listed_visit m node leaves p a c =
-    let r : (v : Visit) × Contains (filter is_leaf (visits_of m node)) v × (place_of v ≡ p) = map_members place_of (filter is_leaf (visits_of m node)) p (subst (λ z. Contains z p) a.are c) in
+    let r : (v : Visit) × Contains (filter is_leaf (visits_of m node)) v × (place_of v ≡ p) = Contains-image place_of (filter is_leaf (visits_of m node)) p (subst (λ z. Contains z p) a.are c) in
     let q : Contains (visits_of m node) r.0 × (is_leaf r.0 ≡ true) = filter_members is_leaf (visits_of m node) r.0 r.1 in
     (r.0, q.0, eqb-true r.0.level 0 q.1, r.2)
 
@@ -54,7 +55,7 @@ number_listed leaves p c = members_map (λ (q : LeafPlace). q.index) leaves p c
 
 -- one of the numbers is that of a leaf of the list
 pub listed_number : (leaves : List LeafPlace) (i : ℕ) → Contains (numbers_of leaves) i → (p : LeafPlace) × Contains leaves p × (p.index ≡ i)
-listed_number leaves i c = map_members (λ (q : LeafPlace). q.index) leaves i c
+listed_number leaves i c = Contains-image (λ (q : LeafPlace). q.index) leaves i c
 
 -- ---- what the paths give
 
@@ -75,51 +76,13 @@ leaf_unlisted m node leaves i a below none = go (leaf_of m node i) (node_leaf_me
 
 -- ---- leaves lie below the size
 
--- a member of what is there unless a test holds
-unless-Contains : (b : Bool) (v : Visit) (vs : List Visit) → Contains (if b then [] else vs) v → (b ≡ false) × Contains vs v
-unless-Contains true v vs c = absurd (omega (arith, c.1))
-unless-Contains false v vs c = (refl, c)
-
--- a member of what is there if a test holds
-if-Contains : (b : Bool) (v : Visit) (vs : List Visit) → Contains (if b then vs else []) v → Contains vs v
-if-Contains true v vs c = c
-if-Contains false v vs c = absurd (omega (arith, c.1))
-
--- where neither test holds the second doesn't
-or-second : (a b : Bool) → (a || b) ≡ false → b ≡ false
-or-second true b e = absurd (cc)
-or-second false b e = e
-
--- a leaf that is met below a pointer has a number below the last
-leaf_below : (m : BlockMap) (last l index p : ℕ) (v : Visit) → Contains (visits_under m last l index p) v → v.level ≡ 0 → v.index < last
-leaf_below m last zero index p v c z =
-    let top : Visit = record { level = 0; index = index; block = p } in
-    let here : ((p == absent || nat_le last index) ≡ false) × Contains (top ∷ []) v = unless-Contains (p == absent || nat_le last index) v (top ∷ []) c in
-    elim (Contains-cases top v [] here.1) [
-      | inl is ↦ subst (λ (w : Visit). w.index < last) is (leb-false last index (or-second (p == absent) (nat_le last index) here.0))
-      | inr none ↦ absurd (omega (arith, none.1))
-    ]
-leaf_below m last (suc l) index p v c z =
-    let P : ℕ = per_block m.size in
-    let top : Visit = record { level = suc l; index = index; block = p } in
-    let part : ℕ → List Visit = λ w. visits_under m last l (index * P + w) (word m p w) in
-    let test : Bool = (p == absent || nat_le last (index * P ^ suc l)) in
-    let rest : List Visit = (if nat_lt p m.count then parts_below P part else []) in
-    let here : (test ≡ false) × Contains (top ∷ rest) v = unless-Contains test v (top ∷ rest) c in
-    elim (Contains-cases top v rest here.1) [
-      | inl is ↦ let level : suc l ≡ v.level = ap (λ (w : Visit). w.level) is in absurd (omega (arith, level, z))
-      | inr there ↦
-          let from : (w : ℕ) × (w < P) × Contains (part w) v = parts-Contains P part v (if-Contains (nat_lt p m.count) v (parts_below P part) there) in
-          leaf_below m last l (index * P + from.0) (word m p from.0) v from.2 z
-    ]
-
 -- a leaf of the list lies below the size
 pub listed_below : (m : BlockMap) (node : Root) (leaves : List LeafPlace) (p : LeafPlace) → AreLeaves m node leaves → Contains leaves p → p.index < leaves_below m node
 listed_below m node leaves p a c =
     let v : (v : Visit) × Contains (visits_of m node) v × (v.level ≡ 0) × (place_of v ≡ p) = listed_visit m node leaves p a c in
     let part : ℕ → List Visit = λ j. visits_under m (leaves_below m node) node.levels j (slice_index_or node.pointers j absent) in
     let from : (j : ℕ) × (j < 16) × Contains (part j) v.0 = parts-Contains 16 part v.0 v.1 in
-    subst (λ (q : LeafPlace). q.index < leaves_below m node) v.3 (leaf_below m (leaves_below m node) node.levels from.0 (slice_index_or node.pointers from.0 absent) v.0 from.2 v.2)
+    subst (λ (q : LeafPlace). q.index < leaves_below m node) v.3 (under_low m (leaves_below m node) node.levels from.0 (slice_index_or node.pointers from.0 absent) v.0 from.2 v.2)
 
 -- a leaf below the size of a node whose levels fit lies below it
 pub lies_at : (m : BlockMap) (node : Root) (i : ℕ) → HasSize m → IsTrue (levels_fit m node) → i < leaves_below m node → LiesBelow m node i

@@ -13,6 +13,7 @@ use Rattle.qx_nodes.specs.Content.{bytes_at_leaf}
 use Rattle.qx_nodes.specs.Leaves.{Block, Leaf, leaf_of}
 use Rattle.qx_records.specs.NameRecord.{Bad, Long, RawRecord, Short, Unused, raw_in}
 use Rattle.qx_view.specs.Images.{block_at_leaf, raw_of, record_block}
+use Rattle.qx_view.proofs.TreeLocality.{record_below}
 use Rattle.qx_walk.specs.Rows.{NamesSome}
 
 -- where record j of leaf i begins
@@ -21,18 +22,14 @@ begins_at size i j whole =
     let parts : size ≡ size / 32 * 32 = omega (arith, div-add-mod' size 32) in
     add-mul (i * (size / 32)) j 32 ∙ ap (λ z. z + j * 32) (mul_assoc i (size / 32) 32 ∙ ap (λ z. i * z) (sym parts))
 
--- it lies within the leaf
-within : (size j : ℕ) → j < size / 32 → j * 32 < size
-within size j low = omega (arith, div-add-mod' size 32)
-
 module _ (m : BlockMap) (node : Root) (i b j : ℕ) (whole : m.size % 32 ≡ 0) (low : j < m.size / 32) (at : leaf_of m node i ≡ Block b) where
   -- its leaf
   leaf_is : (i * (m.size / 32) + j) * 32 / m.size ≡ i
-  leaf_is = ap (λ z. z / m.size) (begins_at m.size i j whole) ∙ div-mul-add i m.size (j * 32) (within m.size j low)
+  leaf_is = ap (λ z. z / m.size) (begins_at m.size i j whole) ∙ div-mul-add i m.size (j * 32) (record_below j m.size low)
 
   -- its place in the leaf
   place_is : (i * (m.size / 32) + j) * 32 % m.size ≡ j * 32
-  place_is = ap (λ z. z % m.size) (begins_at m.size i j whole) ∙ mod-mul-add i m.size (j * 32) (within m.size j low)
+  place_is = ap (λ z. z % m.size) (begins_at m.size i j whole) ∙ mod-mul-add i m.size (j * 32) (record_below j m.size low)
 
   -- what it says
   pub leaf_record : raw_of m node (i * (m.size / 32) + j) ≡ raw_in m.order (slice_range (m.bytes b) (j * 32) (j * 32 + 32))

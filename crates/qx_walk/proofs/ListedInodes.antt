@@ -1,11 +1,12 @@
 -- The list of inodes: empty, and with one more at its end.
-use Rattle.std.proofs.Common.{◌≡◌, ℕ, zero, suc, ◌+◌, ◌-◌, ◌<◌, ◌≤◌, inl, inr, List, [], ◌∷◌, ◌++◌, length, drop, replicate, refl, sym, ◌∙◌, ap, arith, length-append, length-set}
+use Rattle.std.proofs.Common.{◌≡◌, ℕ, ◌+◌, ◌-◌, ◌<◌, ◌≤◌, inl, inr, List, [], ◌∷◌, ◌++◌, length, drop, replicate, sym, ◌∙◌, ap, arith, length-append, length-set}
 use Rattle.std.specs.Prelude.{true, false, ◌||◌, if◌then◌else◌, map, slice_set}
 use Rattle.std.proofs.lemmas.Bool.{cases_eq, eq-eqb, ne_eqb}
 use Rattle.std.proofs.lemmas.List.{drop-append-le, length-replicate, map-append, get_or-replicate, get_or-set_same, get_or-set_other}
 use Rattle.std.proofs.lemmas.List.Elements.{All-nil, All-same}
 use Rattle.qx_blockset.specs.Members.{Members, count_of, has, limit_of}
 use Rattle.qx_geom.specs.Lists.{is_in}
+use Rattle.qx_blockset.proofs.MembersInWords.{count-none}
 use Rattle.qx_view.specs.Walk.{listed_after, new_ones}
 use Rattle.qx_walk.specs.declared.listing.Listing.{Listing}
 use Rattle.qx_walk.specs.declared.listing.Queued.{Queued}
@@ -25,18 +26,13 @@ none_listed l places empty first none = record {
       ap (λ (set : Members). has set (n - 1)) none ∙ get_or-replicate places (n - 1) false false (omega (arith, long, pos, there));
 }
 
--- no number is in the empty set
-none_counted : (places : ℕ) → count_of (replicate places false) ≡ 0
-none_counted zero = refl
-none_counted (suc places) = none_counted places
-
 -- and the list is one of so many inodes
 pub none_listing : (l : Listing) (places : ℕ) → l.queue.items ≡ [] → l.next ≡ 0 → l.listed ≡ replicate places false → IsListing places l
 none_listing l places empty first none = record {
   limit = ap (λ (set : Members). length set) none ∙ length-replicate places false;
   taken = omega (arith, first);
   queued = All-same (λ (q : Queued). (0 < q.inode) × (q.inode ≤ places)) l.queue.items no_one empty (All-nil (λ (q : Queued). (0 < q.inode) × (q.inode ≤ places)));
-  counted = ap count_of none ∙ none_counted places ∙ sym (ap (λ (qs : List Queued). length qs) empty);
+  counted = ap count_of none ∙ count-none places ∙ sym (ap (λ (qs : List Queued). length qs) empty);
 }
 
 -- the pairs that are left, with one more

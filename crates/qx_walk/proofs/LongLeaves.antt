@@ -22,13 +22,14 @@ use Rattle.qx_geom.proofs.Members.{Contains-cons, Contains-head}
 use Rattle.qx_geom.specs.declared.root.Root.{Root}
 use Rattle.qx_geom.specs.Layout.{is_block_size}
 use Rattle.qx_geom.specs.Lists.{IsAscending}
+use Rattle.qx_geom.proofs.ImagesAndFilters.{Contains-image}
 use Rattle.qx_nodes.proofs.ContentLocality.{lies_below, reaches_of}
 use Rattle.qx_nodes.specs.BlockMap.{BlockMap}
 use Rattle.qx_nodes.specs.Content.{HasSize}
 use Rattle.qx_nodes.specs.Leaves.{Block, Hole, leaf_of, leaves_below}
 use Rattle.qx_nodes.specs.Visits.{LiesBelow, present_of}
 use Rattle.qx_records.specs.NameRecord.{long_name_in}
-use Rattle.qx_view.proofs.AlikeLists.{map_members, members_map}
+use Rattle.qx_view.proofs.AlikeLists.{members_map}
 use Rattle.qx_view.specs.Images.{long_name, name_at_leaf}
 use Rattle.qx_walk.proofs.LeafLists.{leaf_listed, leaf_unlisted, listed_ascend, listed_below, numbers_of, numbers_present}
 use Rattle.qx_walk.specs.declared.long_names.LongLeaf.{LongLeaf}
@@ -86,7 +87,7 @@ equal-is x y e = elim (cases_order x y) [
 pub not_among : (leaves : List LongLeaf) (number i : ℕ) → IsPartitionPoint (λ (l : LongLeaf). nat_cmp l.place.index number ≡ Less) (λ (l : LongLeaf). nat_cmp l.place.index number ≡ Greater) leaves i
     → Contains (map (λ (l : LongLeaf). l.place.index) leaves) number → ⊥
 not_among leaves number i parts c =
-    let r : (l : LongLeaf) × Contains leaves l × (l.place.index ≡ number) = map_members (λ (l : LongLeaf). l.place.index) leaves number c in
+    let r : (l : LongLeaf) × Contains leaves l × (l.place.index ≡ number) = Contains-image (λ (l : LongLeaf). l.place.index) leaves number c in
     let k : ℕ = r.1.0 in
     let is : get_or leaves k r.0 ≡ r.0 = r.1.2 in
     let same : nat_cmp (get_or leaves k r.0).place.index number ≡ Equal = ap (λ (l : LongLeaf). nat_cmp l.place.index number) is ∙ ap (λ n. nat_cmp n number) r.2 ∙ nat_cmp-same number in

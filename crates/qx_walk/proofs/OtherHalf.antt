@@ -5,6 +5,7 @@ use Rattle.std.specs.List.{list_all, list_any, range_with_len}
 use Rattle.std.specs.Int.{bit_at}
 use Rattle.std.proofs.lemmas.Bool.{cases_lt, le-leb, leb-true, ltb-false}
 use Rattle.std.proofs.lemmas.Nat.{div_below}
+use Rattle.std.proofs.Math.Bool.{or-true}
 use Rattle.qx_blockset.specs.Members.{Members, count_of, has, limit_of}
 use Rattle.qx_geom.proofs.ImagesAndFilters.{Contains-in, in_Contains}
 use Rattle.qx_geom.proofs.Members.{Contains-cons, Contains-head}
@@ -134,10 +135,6 @@ module _ (m : BlockMap) (s : Superblock) (room : HasSize m) (none : finding_of m
   wanted_same : (b : ℕ) → must_be_set m g (outer_blocks m (main_roots s)) b ≡ is_wanted g set b
   wanted_same b = go (nat_lt b (2 * g.half)) refl
     where
-      or_true : (x : Bool) → (x || true) ≡ true
-      or_true true = refl
-      or_true false = refl
-
       counted : nat_le m.count b ≡ nat_le g.num_blocks b
       counted = ap (λ n. nat_le n b) (count ∙ of.count)
 
@@ -145,8 +142,8 @@ module _ (m : BlockMap) (s : Superblock) (room : HasSize m) (none : finding_of m
       rest high = elim (cases_lt b (limit_of set)) [
         | inl low ↦ λ i. (outer_outside m s room none g which of size count right b (inr (behind_outside g which b high)) ∙ sym (marks.each b low)) i || counted i
         | inr past ↦ let end : nat_le m.count b ≡ true = le-leb m.count b (omega (arith, limit, past)) in
-            ap (λ x. is_in (outer_blocks m (main_roots s)) b || x) end ∙ or_true (is_in (outer_blocks m (main_roots s)) b)
-            ∙ sym (ap (λ x. has set b || x) (sym counted ∙ end) ∙ or_true (has set b))
+            ap (λ x. is_in (outer_blocks m (main_roots s)) b || x) end ∙ or-true (is_in (outer_blocks m (main_roots s)) b)
+            ∙ sym (ap (λ x. has set b || x) (sym counted ∙ end) ∙ or-true (has set b))
       ]
 
       go : (t : Bool) → nat_lt b (2 * g.half) ≡ t → (t || (is_in (outer_blocks m (main_roots s)) b || nat_le m.count b)) ≡ (t || (has set b || nat_le g.num_blocks b))

@@ -1,13 +1,14 @@
 -- The blocks that nodes outside the halves meet, by the blocks that were met.
-use Rattle.std.proofs.Common.{◌≡◌, ◌⊎◌, inl, inr, ℕ, zero, suc, ◌+◌, ◌≤◌, ◌<◌, List, [], ◌∷◌, ◌++◌, length, refl, ap, sym, ◌∙◌, subst, arith}
-use Rattle.std.specs.Prelude.{Bool, true, false, ◌&&◌, ◌||◌, not, cond, if◌then◌else◌, Option, None, Some, Contains, filter, flat_map, map, nat_eq, sum_by}
+use Rattle.std.proofs.Common.{◌≡◌, ◌⊎◌, inl, inr, ℕ, zero, suc, ◌+◌, ◌≤◌, ◌<◌, List, [], ◌∷◌, ◌++◌, length, refl, ap, sym, ◌∙◌, subst, arith, append-nil}
+use Rattle.std.specs.Prelude.{Bool, true, false, ◌&&◌, ◌||◌, not, cond, if◌then◌else◌, Option, None, Some, Contains, filter, flat_map, map, sum_by}
 use Rattle.std.specs.List.{range_with_len}
-use Rattle.std.proofs.lemmas.List.{ext_get_or}
+use Rattle.std.proofs.lemmas.List.{ext_get_or, map-append}
 use Rattle.std.proofs.lemmas.List.FromFn.{get_or-map-range_with_len, length-map-range_with_len}
 use Rattle.std.proofs.lemmas.List.Sums.{sum_by-cons}
+use Rattle.std.proofs.Math.Bool.{or-true}
 use Rattle.qx_blockset.specs.Members.{Members, count_of, limit_of}
-use Rattle.qx_geom.proofs.ImagesAndFilters.{Contains-in, in_Contains}
-use Rattle.qx_geom.proofs.Members.{in_cases, in_head, in_left, in_right, in_tail}
+use Rattle.qx_geom.proofs.ImagesAndFilters.{Contains-in, in_Contains, Contains-image}
+use Rattle.qx_geom.proofs.Members.{in_cases, in_head, in_left, in_right, in_tail, is_in-append}
 use Rattle.qx_geom.proofs.Truths.{and_left, and_right, not_so, not_true, or_left, or_right, true_or_false}
 use Rattle.qx_geom.specs.Layout.{first_block}
 use Rattle.qx_geom.specs.Lists.{all_differ, is_in}
@@ -22,7 +23,7 @@ use Rattle.qx_records.specs.declared.kind.Kind.TheVariants as kinds
 use Rattle.qx_records.specs.declared.kind.Kind.{Kind}
 use Rattle.qx_super.specs.Superblock.{Superblock}
 use Rattle.qx_view.proofs.ActiveHalf.{IsGeometryOf, half_is_trees, root_in_half, root_meets, root_of_half}
-use Rattle.qx_view.proofs.AlikeLists.{map_members, members_map}
+use Rattle.qx_view.proofs.AlikeLists.{members_map}
 use Rattle.qx_view.proofs.ApartPositions.{block_at, met_all, placed, placed_kind, placed_taken, tree_is}
 use Rattle.qx_view.proofs.CountedLinks.{sum_map, sum_members}
 use Rattle.qx_view.proofs.MetBlocks.{met_held}
@@ -34,18 +35,10 @@ use Rattle.qx_view.specs.Reading.{IsHeld, IsTreeOf, OfFurther, OfInode, OfInodes
 use Rattle.qx_view.specs.Sound.{is_laid_out, is_special_inode, is_special_kind, outer_blocks}
 use Rattle.qx_view.specs.Usage.{met_blocks}
 use Rattle.qx_view.specs.Walk.{Taken, finding_of, inode_mode, inode_root, taken_of, tests_of, walked_inodes}
+use Rattle.qx_view.proofs.TestsFromTree.{differ-append}
 use Rattle.qx_pointers.specs.Marks.{Marks}
 
 -- ---- lists of numbers
-
--- what is in two lists end to end is in one of them
-pub is_in-append : (xs ys : List ℕ) (b : ℕ) → is_in (xs ++ ys) b ≡ (is_in xs b || is_in ys b)
-is_in-append [] ys b = refl
-is_in-append (x ∷ xs) ys b = ap (λ t. nat_eq x b || t) (is_in-append xs ys b) ∙ or_assoc (nat_eq x b) (is_in xs b) (is_in ys b)
-  where
-    or_assoc : (p q r : Bool) → (p || (q || r)) ≡ ((p || q) || r)
-    or_assoc true q r = refl
-    or_assoc false q r = refl
 
 -- numbers that differ, in the first of two lists
 differ_left : (xs ys : List ℕ) → all_differ (xs ++ ys) ≡ true → all_differ xs ≡ true
@@ -68,15 +61,6 @@ differ_apart (x ∷ xs) ys b d h = elim (in_cases x b xs h) [
       subst (λ z. is_in ys z ≡ false) is (or_right (is_in xs x) (is_in ys x) (sym (is_in-append xs ys x) ∙ out))
   | inr there ↦ differ_apart xs ys b (and_right (not (is_in (xs ++ ys) x)) (all_differ (xs ++ ys)) d) there
 ]
-
--- two lists of numbers that differ, with none in both
-differ_join : (xs ys : List ℕ) → all_differ xs ≡ true → all_differ ys ≡ true → ((b : ℕ) → is_in xs b ≡ true → is_in ys b ≡ false) → all_differ (xs ++ ys) ≡ true
-differ_join [] ys d e apart = e
-differ_join (x ∷ xs) ys d e apart =
-    let own : is_in xs x ≡ false = not_true (is_in xs x) (and_left (not (is_in xs x)) (all_differ xs) d) in
-    let other : is_in ys x ≡ false = apart x (in_head x xs) in
-    let out : is_in (xs ++ ys) x ≡ false = is_in-append xs ys x ∙ (λ i. own i || other i) in
-    λ i. not (out i) && differ_join xs ys (and_right (not (is_in xs x)) (all_differ xs) d) e (λ b h. apart b (in_tail x b xs h)) i
 
 -- how long lists end to end are
 length_join : {A : Type 0} (xs ys : List A) → length (xs ++ ys) ≡ length xs + length ys
@@ -125,11 +109,6 @@ placed_blocks m o node = go (visits_of m node)
     go [] = refl
     go (v ∷ vs) = ap (λ z. v.block ∷ z) (go vs)
 
--- images of lists end to end
-map_join : {A : Type 0} (f : A → ℕ) (xs ys : List A) → map f (xs ++ ys) ≡ map f xs ++ map f ys
-map_join f [] ys = refl
-map_join f (x ∷ xs) ys = ap (λ z. f x ∷ z) (map_join f xs ys)
-
 -- the blocks of inodes' nodes, but for specials
 abbrev user_blocks_of : BlockMap → Roots → List ℕ → List ℕ
 user_blocks_of m r ns = flat_map (blocks_of m) (map (inode_root m r) (filter (λ n. not (is_special_inode m r n)) ns))
@@ -139,7 +118,7 @@ taken_blocks : (m : BlockMap) (r : Roots) (ts : List Taken) → ((n : ℕ) → i
     → map block_at (flat_map (placed_taken m r) ts) ≡ user_blocks_of m r (map (λ t. t.inode) ts)
 taken_blocks m r [] known = refl
 taken_blocks m r (t ∷ ts) known =
-    map_join block_at (placed_taken m r t) (flat_map (placed_taken m r) ts)
+    map-append block_at (placed_taken m r t) (flat_map (placed_taken m r) ts)
     ∙ go (kind_of (inode_mode m r t.inode)) (known t.inode (in_head t.inode (map (λ t. t.inode) ts))) (taken_blocks m r ts (λ n h. known n (in_tail t.inode n (map (λ t. t.inode) ts) h)))
   where
     others : List ℕ
@@ -174,17 +153,13 @@ module _ (m : BlockMap) (s : Superblock) (room : HasSize m) (none : finding_of m
   met_parts : met_blocks m r ≡ ((inode_blocks ++ long_blocks) ++ bitmap_blocks) ++ reached_blocks
   met_parts =
       met_all m r
-      ∙ map_join block_at ((placed m OfInodes s.inode ++ placed m OfLongfile s.longfile) ++ (placed m (OfFurther 0) s.bitmap ++ [])) (flat_map (placed_taken m r) (taken_of m r))
+      ∙ map-append block_at ((placed m OfInodes s.inode ++ placed m OfLongfile s.longfile) ++ (placed m (OfFurther 0) s.bitmap ++ [])) (flat_map (placed_taken m r) (taken_of m r))
       ∙ (λ i. front i ++ taken_blocks m r (taken_of m r) (λ n h. kind_known m r room none n h) i)
     where
-      end : (xs : List ℕ) → xs ++ [] ≡ xs
-      end [] = refl
-      end (x ∷ xs) = ap (λ z. x ∷ z) (end xs)
-
       front : map block_at ((placed m OfInodes s.inode ++ placed m OfLongfile s.longfile) ++ (placed m (OfFurther 0) s.bitmap ++ [])) ≡ (inode_blocks ++ long_blocks) ++ bitmap_blocks
       front =
-          map_join block_at (placed m OfInodes s.inode ++ placed m OfLongfile s.longfile) (placed m (OfFurther 0) s.bitmap ++ [])
-          ∙ (λ i. map_join block_at (placed m OfInodes s.inode) (placed m OfLongfile s.longfile) i ++ (map_join block_at (placed m (OfFurther 0) s.bitmap) [] ∙ end (map block_at (placed m (OfFurther 0) s.bitmap))) i)
+          map-append block_at (placed m OfInodes s.inode ++ placed m OfLongfile s.longfile) (placed m (OfFurther 0) s.bitmap ++ [])
+          ∙ (λ i. map-append block_at (placed m OfInodes s.inode) (placed m OfLongfile s.longfile) i ++ (map-append block_at (placed m (OfFurther 0) s.bitmap) [] ∙ append-nil (map block_at (placed m (OfFurther 0) s.bitmap))) i)
           ∙ (λ i. (placed_blocks m OfInodes s.inode i ++ placed_blocks m OfLongfile s.longfile i) ++ placed_blocks m (OfFurther 0) s.bitmap i)
 
   -- no block was met twice
@@ -260,7 +235,7 @@ module _ (m : BlockMap) (s : Superblock) (room : HasSize m) (none : finding_of m
       where
         at : (bitmap : Bool) → is_in (blocks_of m (root_of_half s bitmap)) b ≡ true → (first_block g which ≤ b) × (b < first_block g which + g.half)
         at bitmap t =
-            let v : (v : Visit) × Contains (visits_of m (root_of_half s bitmap)) v × (v.block ≡ b) = map_members (λ v. v.block) (visits_of m (root_of_half s bitmap)) b (Contains-in (blocks_of m (root_of_half s bitmap)) b t) in
+            let v : (v : Visit) × Contains (visits_of m (root_of_half s bitmap)) v × (v.block ≡ b) = Contains-image (λ v. v.block) (visits_of m (root_of_half s bitmap)) b (Contains-in (blocks_of m (root_of_half s bitmap)) b t) in
             subst (λ z. (first_block g which ≤ z) × (z < first_block g which + g.half)) v.2 (root_in_half m s g which of size count right bitmap v.0 v.1)
 
         go : (p q : Bool) → is_in inode_blocks b ≡ p → is_in bitmap_blocks b ≡ q → (p || q) ≡ true → (first_block g which ≤ b) × (b < first_block g which + g.half)
@@ -277,12 +252,8 @@ module _ (m : BlockMap) (s : Superblock) (room : HasSize m) (none : finding_of m
         at : (bitmap : Bool) → (v : Visit) × Contains (visits_of m (root_of_half s bitmap)) v × (v.block ≡ b) → is_in (blocks_of m (root_of_half s bitmap)) b ≡ true
         at bitmap v = in_Contains (blocks_of m (root_of_half s bitmap)) b (subst (λ z. Contains (blocks_of m (root_of_half s bitmap)) z) v.2 (members_map (λ v. v.block) (visits_of m (root_of_half s bitmap)) v.0 v.1))
 
-        or_true : (p : Bool) → (p || true) ≡ true
-        or_true true = refl
-        or_true false = refl
-
         by_tree : (bitmap : Bool) → (v : Visit) × Contains (visits_of m (root_of_half s bitmap)) v × (v.block ≡ b) → (is_in inode_blocks b || is_in bitmap_blocks b) ≡ true
-        by_tree true v = ap (λ t. is_in inode_blocks b || t) (at true v) ∙ or_true (is_in inode_blocks b)
+        by_tree true v = ap (λ t. is_in inode_blocks b || t) (at true v) ∙ or-true (is_in inode_blocks b)
         by_tree false v = ap (λ t. t || is_in bitmap_blocks b) (at false v)
 
     -- outside the active half those met are the outer blocks
@@ -305,4 +276,4 @@ module _ (m : BlockMap) (s : Superblock) (room : HasSize m) (none : finding_of m
         apart b h = differ_apart (inode_blocks ++ long_blocks) bitmap_blocks b front_differ (in_left inode_blocks long_blocks b h)
 
         differ : all_differ (inode_blocks ++ bitmap_blocks) ≡ true
-        differ = differ_join inode_blocks bitmap_blocks (differ_left inode_blocks long_blocks first_differ) (differ_right (inode_blocks ++ long_blocks) bitmap_blocks front_differ) apart
+        differ = differ-append inode_blocks bitmap_blocks (differ_left inode_blocks long_blocks first_differ) (differ_right (inode_blocks ++ long_blocks) bitmap_blocks front_differ) apart

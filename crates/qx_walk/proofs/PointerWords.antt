@@ -1,7 +1,7 @@
 -- The words of the pointer blocks of a half, block by block and level by level.
 use Rattle.std.proofs.Common.{◌≡◌, ℕ, zero, suc, ◌+◌, ◌*◌, ◌-◌, ◌≤◌, ◌<◌, refl, ap, sym, ◌∙◌, subst, arith}
-use Rattle.std.specs.Prelude.{Bool, true, false, ◌&&◌, ◌==◌, map}
-use Rattle.std.specs.List.{list_all, range_with_len}
+use Rattle.std.specs.Prelude.{Bool, true, false, ◌==◌}
+use Rattle.std.specs.List.{list_all}
 use Rattle.std.proofs.lemmas.Bool.{cond-true, lt-ltb}
 use Rattle.qx_fields.specs.Number.{field}
 use Rattle.qx_geom.proofs.SystemBlocks.{IsPointerBlock-above, IsTreeBlock-pointer, system_word_of-is, tree_block-below}
@@ -12,19 +12,11 @@ use Rattle.qx_geom.specs.Lists.{each_below}
 use Rattle.qx_geom.specs.Pointer.{per_block}
 use Rattle.qx_geom.specs.declared.area.Which.{Which}
 use Rattle.qx_geom.specs.declared.geometry.Geometry.{Geometry}
+use Rattle.qx_geom.proofs.Members.{all_below}
 use Rattle.qx_nodes.specs.BlockMap.{BlockMap, word}
 use Rattle.qx_view.proofs.AlikeLists.{all_alike, below_all}
 use Rattle.qx_view.specs.Sound.{has_system_words, is_system_tree}
 use Rattle.qx_walk.specs.Layouts.{are_words_of}
-
--- what each number of a range passes, all pass
-all_range : (p : ℕ → Bool) (a n : ℕ) → ((k : ℕ) → a ≤ k → k < a + n → p k ≡ true) → list_all p (map (λ j. j) (range_with_len a n)) ≡ true
-all_range p a zero each = refl
-all_range p a (suc n) each = λ i. each a (omega arith) (omega arith) i && all_range p (a + 1) n (λ k low high. each k (omega arith) (omega arith)) i
-
--- so do all below a bound
-pub all_below : (p : ℕ → Bool) (n : ℕ) → ((k : ℕ) → k < n → p k ≡ true) → list_all p (each_below n (λ j. j)) ≡ true
-all_below p n each = all_range p 0 n (λ k low high. each k (omega arith))
 
 -- where one below a bound doesn't pass, not all do
 pub not_below : (p : ℕ → Bool) (n k : ℕ) → k < n → p k ≡ false → list_all p (each_below n (λ j. j)) ≡ false

@@ -1,6 +1,6 @@
 -- The superblock that was read as the active one is valid.
 use Rattle.std.proofs.Common.{◌≡◌, ℕ, ◌+◌, ◌≤◌, List, length, sym, ◌∙◌, ap, subst}
-use Rattle.std.specs.Prelude.{Bool, true, false, Option, Some, None, Result, Ok, Err, IfSome, option_and_then, ◌==◌, if◌then◌else◌}
+use Rattle.std.specs.Prelude.{true, Option, Some, None, Ok, IfSome, option_and_then}
 use Rattle.std.specs.Result.{result_ok}
 use Rattle.qx_geom.specs.Layout.{is_block_size}
 use Rattle.qx_geom.specs.declared.area.Which.{Which}
@@ -11,17 +11,13 @@ use Rattle.qx_super.proofs.SuperblockTests.{valid-blocksize, valid-room}
 use Rattle.qx_super.specs.Active.{AreRead, active_area, active_super, first_read, only_at, second_read, searched_place, super_of_pick}
 use Rattle.qx_super.specs.Superblock.{Superblock, second_place_of, superblock_of}
 use Rattle.qx_super.specs.declared.choice.Pick.TheVariants as picks
-use Rattle.qx_super.specs.declared.superblock.SuperFault.{SuperFault}
+use Rattle.qx_super.proofs.ValidSuperblocks.{ok_of}
+use Rattle.qx_view.proofs.ImageTrees.{only_from}
 
 -- a superblock's blocks and the second superblock behind them fit a device of this length
 pub record FitsLength (s : Superblock) (len : ℕ) : Type 0 where
   pub sized : is_block_size s.blocksize ≡ true
   pub room : second_place_of s + 512 ≤ len
-
--- what is answered well
-ok_of : (o : Result Superblock SuperFault) (s : Superblock) → result_ok o ≡ Some s → o ≡ Ok s
-ok_of (Ok x) s e = let is : x ≡ s = cc in ap (λ z. Ok z) is
-ok_of (Err f) s e = absurd (cc)
 
 -- the bytes of an area
 fits_read : (bytes : List ℕ) (len : ℕ) (s : Superblock) → result_ok (superblock_of bytes len) ≡ Some s → FitsLength s len
@@ -29,19 +25,10 @@ fits_read bytes len s e =
     let valid : superblock_of bytes len ≡ Ok s = ok_of (superblock_of bytes len) s e in
     record { sized = valid-blocksize bytes len s valid; room = valid-room bytes len s valid }
 
--- one that stands where it says is one
-at_place : (place : ℕ) (o : Option Superblock) (s : Superblock) → only_at place o ≡ Some s → o ≡ Some s
-at_place place None s e = absurd (cc)
-at_place place (Some x) s e = go (second_place_of x == place) e
-  where
-    go : (b : Bool) → (if b then Some x else None) ≡ Some s → Some x ≡ Some s
-    go true h = h
-    go false h = absurd (cc)
-
 -- the bytes of the second area, wherever it was looked for
 fits_second : (place : Option ℕ) (bytes : List ℕ) (len : ℕ) (s : Superblock) → option_and_then (λ p. only_at p (result_ok (superblock_of bytes len))) place ≡ Some s → FitsLength s len
 fits_second None bytes len s e = absurd (cc)
-fits_second (Some p) bytes len s e = fits_read bytes len s (at_place p (result_ok (superblock_of bytes len)) s e)
+fits_second (Some p) bytes len s e = fits_read bytes len s (only_from p (result_ok (superblock_of bytes len)) s e)
 
 -- the superblock of the area that was picked
 pub fits_active : (which : Which) (first second : List ℕ) (len : ℕ) (s : Superblock) → super_of_pick (picks.Active which) (first_read first len) (second_read first second len) ≡ Some s → FitsLength s len

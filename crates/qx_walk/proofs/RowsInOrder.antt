@@ -11,6 +11,7 @@ use Rattle.qx_view.proofs.TestOrder.{first_failing-append, or_else}
 use Rattle.qx_view.specs.Images.{Roots, all_records, present_records, raw_of, record_block}
 use Rattle.qx_view.specs.Sound.{is_foreign_directory, long_number, numbers_named_in}
 use Rattle.qx_view.specs.Walk.{Finding, first_failing, gone_through, inodes_named_in, listed_after, named_inode, new_ones, record_tests, records_tests}
+use Rattle.qx_pointers.proofs.PassedTests.{halts_more}
 use Rattle.qx_walk.proofs.KeptLists.{HaveSame, all_counted, all_listed, all_queued, tests_append, with_append}
 use Rattle.qx_pointers.proofs.ShownBlocks.{rose_from}
 use Rattle.qx_pointers.specs.declared.halt.Halt.{Halt}
@@ -30,12 +31,6 @@ use Rattle.qx_walk.specs.Tables.{HasListed, HoldsNames, times_named}
 -- where the first part has none, it is the second part's
 answers_later : {T : Type 0} (f g : Option Finding) (result : Result T Halt) → f ≡ None → Answers g result → Answers (or_else f g) result
 answers_later {T = T} f g result e a = subst (λ z. Answers {T = T} (or_else z g) result) (sym e) a
-
--- one of the first part stays
-halts_first : (f g : Option Finding) (halt : Halt) → HaltsAt f halt → HaltsAt (or_else f g) halt
-halts_first f g (halts.Finding code inode block) h = ap (λ z. or_else z g) h
-halts_first f g halts.Device h = tt
-halts_first f g halts.NoMemory h = tt
 
 -- ---- halts
 
@@ -99,7 +94,7 @@ walks_halts m r d ks js kept halt mid seen a =
       answer = λ met. subst (λ z. HaltsAt z halt)
           (sym (ap (first_failing met) (tests_append m r d.inode d.parent d.node ks js kept)
           ∙ first_failing-append met (records_tests m r d.inode d.parent d.node kept.names kept.listed ks) (records_tests m r d.inode d.parent d.node after.names after.listed js)))
-          (halts_first (first_failing met (records_tests m r d.inode d.parent d.node kept.names kept.listed ks)) _ halt (a.answer met));
+          (halts_more halt (first_failing met (records_tests m r d.inode d.parent d.node kept.names kept.listed ks)) _ (a.answer met));
       holds = tt;
     }
 

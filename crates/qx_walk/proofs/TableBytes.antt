@@ -4,13 +4,12 @@ use Rattle.std.specs.Prelude.{Bool, true, false, not, ◌&&◌, ◌||◌, ◌==�
 use Rattle.std.specs.List.{list_any}
 use Rattle.std.proofs.lemmas.Bool.{cases_eq, eq-eqb, eqb-true, cases_lt, ltb-false, ne_eqb, or_cases}
 use Rattle.std.proofs.lemmas.List.{drop-drop, drop-take, drop_all, take-take, take_all}
-use Rattle.std.proofs.lemmas.Nat.{div-add-mod', le-div}
-use Rattle.std.proofs.Math.Nat.{add-mul, div-mul-le_self, one-mul}
+use Rattle.std.proofs.lemmas.Nat.{div-add-mod'}
+use Rattle.std.proofs.Math.Nat.{add-mul, one-mul}
 use Rattle.qx_geom.proofs.BlockSizes.{BlockSizeBounds, block_size-bounds}
-use Rattle.qx_geom.proofs.LevelCounts.{ceil_div-is}
+use Rattle.qx_geom.proofs.LevelCounts.{ceil_div-is, part_below}
 use Rattle.qx_geom.specs.declared.root.Root.{Root}
 use Rattle.qx_geom.specs.Layout.{is_block_size}
-use Rattle.qx_geom.specs.Pointer.{ceil_div}
 use Rattle.qx_nodes.specs.BlockMap.{BlockMap}
 use Rattle.qx_nodes.specs.Content.{leaf_bytes}
 use Rattle.qx_nodes.specs.Leaves.{leaves_below}
@@ -47,12 +46,6 @@ room_within s k t =
     ⊎_elim (λ t'. ⊎_elim (λ t''. ⊎_elim (λ e. subst (HasRoom k) (sym (eqb-true s 512 e)) (omega arith)) (λ e. subst (HasRoom k) (sym (eqb-true s 1024 e)) (omega arith)) (or_cases _ _ t''))
     (λ e. subst (HasRoom k) (sym (eqb-true s 2048 e)) (omega arith)) (or_cases _ _ t')) (λ e. subst (HasRoom k) (sym (eqb-true s 4096 e)) (omega arith)) (or_cases _ _ t)
 
--- a byte below the size lies in a leaf that is there
-leaf_there : (k a b : ℕ) → 0 < b → k < a → k / b < ceil_div a b
-leaf_there k a b pos below =
-    let more : (k / b + 1) * b ≤ a + b - 1 = rw (add-mul (k / b) 1 b, one-mul b) (omega (arith, div-mul-le_self k b)) in
-    omega (arith, le-div (k / b + 1) (a + b - 1) b pos more)
-
 -- the places of a table lie below its size
 pub places_below : (size n : ℕ) → n ≤ (if nat_lt (size / 128) (2 ^ 32) then size / 128 else 2 ^ 32 - 1) → n * 128 ≤ size
 places_below size n h = go (nat_lt (size / 128) (2 ^ 32)) refl h
@@ -71,7 +64,7 @@ inode_piece m inodes table n h from to =
     let bounds : BlockSizeBounds s = block_size-bounds s h.sized in
     let low : n * 128 ≤ table.size = places_below table.size n to in
     let begins : at < inodes.size = omega (arith, from, low, h.size) in
-    let there : at / s < leaves_below m inodes = leaf_there at inodes.size s (omega (arith, bounds.size_from)) begins in
+    let there : at / s < leaves_below m inodes = part_below at inodes.size s (omega (arith, bounds.size_from)) begins in
     let is : at / s * s + at % s ≡ at = div-add-mod' at s in
     ap (λ k. slice_range bytes k (k + 128)) (sym is)
     ∙ sym (range_within bytes (at / s * s) s (at % s) 128 (room_within s (n - 1) h.sized))

@@ -1,9 +1,12 @@
 -- The walk on its way through the list of inodes: what was taken, what is still to be taken, and that all that is left gives what is left of the tests.
-use Rattle.std.proofs.Common.{◌≡◌, ℕ, zero, suc, ◌+◌, ◌<◌, ◌≤◌, ◌⊎◌, inl, inr, List, [], ◌∷◌, ◌++◌, length, refl, sym, ◌∙◌, ap, subst, arith}
-use Rattle.std.specs.Prelude.{Bool, true, false, ◌||◌, Some, None, is_some, map, flat_map}
-use Rattle.std.proofs.lemmas.Bool.{leb-true}
+use Rattle.std.proofs.Common.{◌≡◌, ℕ, zero, suc, ◌+◌, ◌<◌, ◌≤◌, ◌⊎◌, inl, inr, List, [], ◌∷◌, ◌++◌, length, refl, sym, ◌∙◌, ap, subst, arith, append_assoc, append-nil}
+use Rattle.std.specs.Prelude.{true, ◌||◌, Some, None, is_some, map, flat_map}
+use Rattle.std.proofs.lemmas.Bool.{leb-true, or_cases, or_left, or_right}
+use Rattle.std.proofs.lemmas.Grind.{flat_map-append}
+use Rattle.std.proofs.Math.Bool.{or-false}
 use Rattle.qx_geom.proofs.Members.{in_append_cases, in_cases, in_head, in_left, in_right, in_tail}
 use Rattle.qx_geom.specs.Lists.{is_in}
+use Rattle.qx_geom.proofs.Truths.{same_truth}
 use Rattle.qx_nodes.specs.BlockMap.{BlockMap}
 use Rattle.qx_records.specs.InodeRecord.{kind_of}
 use Rattle.qx_view.proofs.DirectoryTests.{IsThere, directory_kind, named_passes}
@@ -11,29 +14,15 @@ use Rattle.qx_view.proofs.TestOrder.{first_failing-append, or_else}
 use Rattle.qx_view.proofs.WalkEnds.{AllInRange, after_cases, firsts, firsts-append, inodes, named_listed, new_among, new_counted, unlisted, unlisted_start}
 use Rattle.qx_view.specs.Images.{Roots, inode_places}
 use Rattle.qx_view.specs.Usage.{met_blocks}
+use Rattle.qx_pointers.proofs.PassedTests.{gone-append}
 use Rattle.qx_walk.specs.Inodes.{tests_above}
-use Rattle.qx_view.specs.Walk.{Finding, Met, Taken, Test, Tested, finding_of, first_failing, gone_through, inode_mode, inode_tests, is_directory_inode, listed_after, met_after, met_of, named_inodes, new_ones, taken_from, taken_of, tests_of, walked_inodes}
+use Rattle.qx_view.specs.Walk.{Finding, Met, Taken, Test, Tested, finding_of, first_failing, gone_through, inode_mode, inode_tests, is_directory_inode, listed_after, met_of, named_inodes, new_ones, taken_from, taken_of, tests_of, walked_inodes}
 
 -- the tests that come before the inodes, and those of the inodes that were taken so far
 abbrev pub tests_so_far : BlockMap → Roots → List Taken → List Test
 tests_so_far m r before = tests_above m r ++ flat_map (inode_tests m r) before
 
 -- ---- lists
-
--- lists end to end
-append_assoc : {A : Type 0} (xs ys zs : List A) → (xs ++ ys) ++ zs ≡ xs ++ (ys ++ zs)
-append_assoc [] ys zs = refl
-append_assoc (x ∷ xs) ys zs = ap (λ l. x ∷ l) (append_assoc xs ys zs)
-
--- the parts of lists end to end
-flat_append : {A B : Type 0} (f : A → List B) (xs ys : List A) → flat_map f (xs ++ ys) ≡ flat_map f xs ++ flat_map f ys
-flat_append f [] ys = refl
-flat_append f (x ∷ xs) ys = ap (λ l. f x ++ l) (flat_append f xs ys) ∙ sym (append_assoc (f x) (flat_map f xs) (flat_map f ys))
-
--- a list and nothing
-append_none : {A : Type 0} (xs : List A) → xs ++ [] ≡ xs
-append_none [] = refl
-append_none (x ∷ xs) = ap (λ l. x ∷ l) (append_none xs)
 
 -- the inodes of lists end to end
 pub inodes_append : (ts us : List Taken) → inodes (ts ++ us) ≡ inodes ts ++ inodes us
@@ -69,22 +58,11 @@ members_gone met (Met inode block ∷ es) b (inl h) =
     ]
 members_gone met (Met inode block ∷ es) b (inr h) = members_gone (block ∷ met) es b (inr (in_tail block b met h))
 
--- two truths that imply one another are equal
-pub same_truth : (a b : Bool) → (a ≡ true → b ≡ true) → (b ≡ true → a ≡ true) → a ≡ b
-same_truth true b f g = sym (f refl)
-same_truth false true f g = g refl
-same_truth false false f g = refl
-
 -- what was met in the end is what the tests meet
 pub met_in_all : (es : List Test) (b : ℕ) → is_in (gone_through [] es) b ≡ is_in (met_of es) b
 met_in_all es b = same_truth _ _
     (λ h. elim (gone_members [] es b h) [ inl here ↦ here | inr none ↦ absurd (cc) ])
     (λ h. members_gone [] es b (inl h))
-
--- tests one after another
-gone_append : (met : List ℕ) (es fs : List Test) → gone_through met (es ++ fs) ≡ gone_through (gone_through met es) fs
-gone_append met [] fs = refl
-gone_append met (e ∷ es) fs = gone_append (met_after met e) es fs
 
 -- ---- on the way
 
@@ -102,7 +80,7 @@ pub record IsUnderway (m : BlockMap) (r : Roots) (before : List Taken) (queue : 
 tests_in_parts : (m : BlockMap) (r : Roots) (before rest : List Taken) → taken_of m r ≡ before ++ rest → tests_of m r ≡ tests_so_far m r before ++ flat_map (inode_tests m r) rest
 tests_in_parts m r before rest is =
     ap (λ ts. tests_above m r ++ flat_map (inode_tests m r) ts) is
-    ∙ ap (λ l. tests_above m r ++ l) (flat_append (inode_tests m r) before rest)
+    ∙ ap (λ l. tests_above m r ++ l) (flat_map-append (inode_tests m r) before rest)
     ∙ sym (append_assoc (tests_above m r) (flat_map (inode_tests m r) before) (flat_map (inode_tests m r) rest))
 
 -- a directory has a kind
@@ -115,8 +93,8 @@ starts m r none top = record {
   fuel = inode_places r + 1;
   taken = refl;
   room = omega (arith, unlisted_start (inode_places r) (1 ∷ []));
-  none = subst (λ l. first_failing [] l ≡ None) (sym (append_none (tests_above m r))) none;
-  met_is = ap (gone_through []) (sym (append_none (tests_above m r)));
+  none = subst (λ l. first_failing [] l ≡ None) (sym (append-nil (tests_above m r))) none;
+  met_is = ap (gone_through []) (sym (append-nil (tests_above m r)));
   members = λ n. refl;
   kinds = λ n h. elim (in_cases 1 n [] h) [ inl is ↦ subst (λ z. is_some (kind_of (inode_mode m r z)) ≡ true) is (kind_there m r 1 top) | inr there ↦ absurd (cc) ];
 }
@@ -179,7 +157,7 @@ module _ (m : BlockMap) (r : Roots) (before : List Taken) (e : ℕ × ℕ) (rest
 
     so_far_then : tests_so_far m r (before ++ next_taken ∷ []) ≡ tests_so_far m r before ++ inode_tests m r next_taken
     so_far_then =
-        ap (λ l. tests_above m r ++ l) (flat_append (inode_tests m r) before (next_taken ∷ []) ∙ ap (λ l. flat_map (inode_tests m r) before ++ l) (append_none (inode_tests m r next_taken)))
+        ap (λ l. tests_above m r ++ l) (flat_map-append (inode_tests m r) before (next_taken ∷ []) ∙ ap (λ l. flat_map (inode_tests m r) before ++ l) (append-nil (inode_tests m r next_taken)))
         ∙ sym (append_assoc (tests_above m r) (flat_map (inode_tests m r) before) (inode_tests m r next_taken))
 
     none_then : first_failing [] (tests_so_far m r (before ++ next_taken ∷ [])) ≡ None
@@ -193,40 +171,28 @@ module _ (m : BlockMap) (r : Roots) (before : List Taken) (e : ℕ × ℕ) (rest
     met_then : gone_through met (inode_tests m r next_taken) ≡ gone_through [] (tests_so_far m r (before ++ next_taken ∷ []))
     met_then =
         ap (λ l. gone_through l (inode_tests m r next_taken)) w.met_is
-        ∙ sym (gone_append [] (tests_so_far m r before) (inode_tests m r next_taken))
+        ∙ sym (gone-append [] (tests_so_far m r before) (inode_tests m r next_taken))
         ∙ ap (gone_through []) (sym so_far_then)
 
     -- a number that is listed then was listed, or is named
-    or_true : (a b : Bool) → (a || b) ≡ true → (a ≡ true) ⊎ (b ≡ true)
-    or_true true b h = inl refl
-    or_true false b h = inr h
-
-    left_true : (a b : Bool) → a ≡ true → (a || b) ≡ true
-    left_true true b h = refl
-    left_true false b h = absurd (cc)
-
-    right_true : (a b : Bool) → b ≡ true → (a || b) ≡ true
-    right_true true b h = refl
-    right_true false b h = h
-
     members_from : (n : ℕ) → is_in listed_then n ≡ true → (is_in (inodes (before ++ next_taken ∷ [])) n || is_in (firsts queue_then) n) ≡ true
     members_from n h = elim (after_cases (named_inodes m r e.0) listed n h) [
-      | inl old ↦ elim (or_true (is_in (inodes before) n) (is_in (firsts (e ∷ rest)) n) (sym (w.members n) ∙ old)) [
-        | inl b ↦ left_true _ _ (subst (λ l. is_in l n ≡ true) (sym (inodes_append before (next_taken ∷ []))) (in_left (inodes before) (e.0 ∷ []) n b))
+      | inl old ↦ elim (or_cases (is_in (inodes before) n) (is_in (firsts (e ∷ rest)) n) (sym (w.members n) ∙ old)) [
+        | inl b ↦ or_left _ _ (subst (λ l. is_in l n ≡ true) (sym (inodes_append before (next_taken ∷ []))) (in_left (inodes before) (e.0 ∷ []) n b))
         | inr q ↦ elim (in_cases e.0 n (firsts rest) q) [
-          | inl is ↦ left_true _ _ (subst (λ l. is_in l n ≡ true) (sym (inodes_append before (next_taken ∷ []))) (in_right (inodes before) (e.0 ∷ []) n (subst (λ z. is_in (e.0 ∷ []) z ≡ true) is (in_head e.0 []))))
-          | inr later ↦ right_true _ _ (subst (λ l. is_in l n ≡ true) (sym (firsts-append rest e.0 (new_ones (named_inodes m r e.0) listed))) (in_left (firsts rest) _ n later))
+          | inl is ↦ or_left _ _ (subst (λ l. is_in l n ≡ true) (sym (inodes_append before (next_taken ∷ []))) (in_right (inodes before) (e.0 ∷ []) n (subst (λ z. is_in (e.0 ∷ []) z ≡ true) is (in_head e.0 []))))
+          | inr later ↦ or_right _ _ (subst (λ l. is_in l n ≡ true) (sym (firsts-append rest e.0 (new_ones (named_inodes m r e.0) listed))) (in_left (firsts rest) _ n later))
         ]
       ]
-      | inr new ↦ right_true _ _ (subst (λ l. is_in l n ≡ true) (sym (firsts-append rest e.0 (new_ones (named_inodes m r e.0) listed))) (in_right (firsts rest) _ n new))
+      | inr new ↦ or_right _ _ (subst (λ l. is_in l n ≡ true) (sym (firsts-append rest e.0 (new_ones (named_inodes m r e.0) listed))) (in_right (firsts rest) _ n new))
     ]
 
     was_listed : (n : ℕ) → (is_in (inodes before) n ≡ true) ⊎ (is_in (firsts (e ∷ rest)) n ≡ true) → is_in listed n ≡ true
-    was_listed n (inl b) = w.members n ∙ left_true _ _ b
-    was_listed n (inr q) = w.members n ∙ right_true (is_in (inodes before) n) _ q
+    was_listed n (inl b) = w.members n ∙ or_left _ _ b
+    was_listed n (inr q) = w.members n ∙ or_right (is_in (inodes before) n) _ q
 
     members_to : (n : ℕ) → (is_in (inodes (before ++ next_taken ∷ [])) n || is_in (firsts queue_then) n) ≡ true → is_in listed_then n ≡ true
-    members_to n h = elim (or_true _ _ h) [
+    members_to n h = elim (or_cases _ _ h) [
       | inl b ↦ elim (in_append_cases (inodes before) (e.0 ∷ []) n (subst (λ l. is_in l n ≡ true) (inodes_append before (next_taken ∷ [])) b)) [
         | inl old ↦ named_listed (named_inodes m r e.0) listed n (inr (was_listed n (inl old)))
         | inr here ↦ named_listed (named_inodes m r e.0) listed n (inr (was_listed n (inr (in_left (e.0 ∷ []) (firsts rest) n here))))
@@ -261,7 +227,7 @@ module _ (m : BlockMap) (r : Roots) (before : List Taken) (listed met : List ℕ
 
   -- all was taken
   pub all_taken : taken_of m r ≡ before
-  all_taken = w.taken ∙ ap (λ l. before ++ l) (nothing_left w.fuel) ∙ append_none before
+  all_taken = w.taken ∙ ap (λ l. before ++ l) (nothing_left w.fuel) ∙ append-nil before
 
   pub none_failed : finding_of m r ≡ None
   none_failed = ap (λ l. first_failing [] (tests_so_far m r l)) all_taken ∙ w.none
@@ -275,9 +241,5 @@ module _ (m : BlockMap) (r : Roots) (before : List Taken) (listed met : List ℕ
   pub walked_are : walked_inodes m r ≡ inodes before
   walked_are = sym (ap (λ l. inodes l) (sym all_taken) ∙ inodes_walked (taken_of m r))
 
-  or_nothing : (a : Bool) → (a || false) ≡ a
-  or_nothing true = refl
-  or_nothing false = refl
-
   pub listed_are : (n : ℕ) → is_in listed n ≡ is_in (walked_inodes m r) n
-  listed_are n = w.members n ∙ or_nothing (is_in (inodes before) n) ∙ ap (λ l. is_in l n) (sym walked_are)
+  listed_are n = w.members n ∙ or-false (is_in (inodes before) n) ∙ ap (λ l. is_in l n) (sym walked_are)

@@ -1,8 +1,10 @@
 -- One more inode of the walk: what its kind makes of it.
 use Rattle.std.proofs.Common.{◌≡◌, ◌≢◌, ℕ, zero, suc, ◌+◌, ◌-◌, ◌/◌, ◌^◌, ◌<◌, ◌≤◌, List, [], ◌∷◌, ◌++◌, refl, sym, ◌∙◌, ap, subst, arith}
 use Rattle.std.specs.Prelude.{Bool, true, false, not, ◌&&◌, ◌||◌, ◌==◌, Option, Some, None, Ok, Err, is_some, length, map, nat_eq, nat_lt, option_to_list, unwrap_or, if◌then◌else◌}
-use Rattle.std.proofs.lemmas.Bool.{eqb-true, eq-eqb}
+use Rattle.std.proofs.lemmas.Bool.{eqb-true}
 use Rattle.std.proofs.lemmas.List.{append-nil}
+use Rattle.std.proofs.Math.Bool.{or-false}
+use Rattle.qx_geom.proofs.Members.{in_head}
 use Rattle.qx_blockset.specs.Members.{Members}
 use Rattle.qx_geom.proofs.Truths.{not_so, true_or_false}
 use Rattle.qx_geom.specs.declared.root.Root.{Root}
@@ -22,7 +24,7 @@ use Rattle.qx_nodes.specs.ForeignNodes.{is_foreign_node}
 use Rattle.qx_view.specs.Sound.{fails_dots, fails_nodes, fails_tail, has_tail, is_foreign_directory, is_special_kind, numbers_named_in}
 use Rattle.qx_view.specs.Walk.{Finding, Test, Tested, first_failing, gone_through, inode_mode, inode_root, inode_tests, inodes_named_in, is_directory_inode, is_directory_kind, named_inode, Place, record_tests, row_tests, slot_name, kind_tests, listed_after, new_ones, records_tests}
 use Rattle.qx_walk.proofs.LeastNotes.{first_more}
-use Rattle.qx_pointers.proofs.PassedTests.{gone-append}
+use Rattle.qx_pointers.proofs.PassedTests.{gone-append, halts_more}
 use Rattle.qx_pointers.specs.declared.halt.Halt.{Halt}
 use Rattle.qx_pointers.specs.declared.halt.Halt.TheVariants as halts
 use Rattle.qx_walk.specs.declared.notes.Notes.{Notes}
@@ -37,12 +39,6 @@ use Rattle.qx_pointers.specs.Marks.{Marks}
 use Rattle.qx_walk.specs.Rows.{WalksRecords, begins_with_dots}
 use Rattle.qx_walk.specs.Tables.{HasListed, HoldsInodes, HoldsNames, places_of}
 use Rattle.qx_walk.specs.Trees.{IsNoted, note_if}
-
--- a halt at a finding is one at it or else another
-halts_more : (halt : Halt) (f o : Option Finding) → HaltsAt f halt → HaltsAt (or_else f o) halt
-halts_more (halts.Finding code inode block) f o e = ap (λ z. or_else z o) e
-halts_more halts.Device f o e = tt
-halts_more halts.NoMemory f o e = tt
 
 -- ---- records
 
@@ -90,10 +86,6 @@ note_none false n o e = e
 in_rest : (n k : ℕ) (l : List ℕ) → k ≢ n → is_in (n ∷ l) k ≡ is_in l k
 in_rest n k l isnt = ap (λ b. b || is_in l k) (not_so (nat_eq n k) (λ t. isnt (sym (eqb-true n k t))))
 
--- the head is in the list
-in_now : (n : ℕ) (l : List ℕ) → is_in (n ∷ l) n ≡ true
-in_now n l = ap (λ b. b || is_in l n) (eq-eqb n n refl)
-
 -- a test of the numbers of a list, with one more
 listed_or : (a b p : Bool) → a ≡ true → (a && p) ≡ ((b && p) || p)
 listed_or true true true e = refl
@@ -106,7 +98,7 @@ module _ (m : BlockMap) (r : Roots) (n : ℕ) (taken : List ℕ) (positive : 0 <
   more_noted : (fails : List ℕ → ℕ → Bool) (own : ℕ → Bool) → ((l : List ℕ) → fails l n ≡ (is_in l n && own n)) → ((k : ℕ) → k ≢ n → fails (n ∷ taken) k ≡ fails taken k)
       → first_below (fails (n ∷ taken)) (inode_places r + 1) ≡ note_if (own n) n (first_below (fails taken) (inode_places r + 1))
   more_noted fails own at others = first_more (fails taken) (fails (n ∷ taken)) (own n) n (inode_places r + 1) (omega (arith, there)) others
-      (at (n ∷ taken) ∙ listed_or (is_in (n ∷ taken) n) (is_in taken n) (own n) (in_now n taken) ∙ ap (λ b. b || own n) (sym (at taken)))
+      (at (n ∷ taken) ∙ listed_or (is_in (n ∷ taken) n) (is_in taken n) (own n) (in_head n taken) ∙ ap (λ b. b || own n) (sym (at taken)))
 
   -- whether its node fails, its first records, and its tail
   abbrev node_fails : ℕ → Bool
@@ -204,14 +196,10 @@ module _ (m : BlockMap) (r : Roots) (n parent : ℕ) (done : Done) (positive : 0
       (λ none. dots ∙ sym (ap (λ b. note_if (b && not (begins_with_dots m node)) n way.notes.dots) (ap is_directory_kind is ∙ plain)))
       (walked.tails ∙ sym (ap (λ b. note_if (not b && has_tail m node) n way.notes.tails) (ap is_special_kind is ∙ some)))
     where
-      or_nothing : (b : Bool) → (b || false) ≡ b
-      or_nothing true = refl
-      or_nothing false = refl
-
       nodes_by : (k : Option Kind) → is_directory_kind k ≡ false → is_special_kind k ≡ false → note_if (not (is_special_kind k) && (is_foreign_node m node || (is_directory_kind k && is_foreign_directory m node))) n way.notes.nodes ≡ note_if (is_foreign_node m node) n way.notes.nodes
       nodes_by k d s = ap (λ b. note_if (not b && (is_foreign_node m node || (is_directory_kind k && is_foreign_directory m node))) n way.notes.nodes) s
           ∙ ap (λ b. note_if (is_foreign_node m node || (b && is_foreign_directory m node)) n way.notes.nodes) d
-          ∙ ap (λ b. note_if b n way.notes.nodes) (or_nothing (is_foreign_node m node))
+          ∙ ap (λ b. note_if b n way.notes.nodes) (or-false (is_foreign_node m node))
 
   -- a file
   pub file_walked : (keeps : Bool) (part : Part) (way new : Way) (seen : Seen) → kind_of (inode_mode m r n) ≡ Some kinds.File → Remembers m r done way seen → WalksNode m n node keeps done.met (Ok part) way new → new.notes.dots ≡ way.notes.dots

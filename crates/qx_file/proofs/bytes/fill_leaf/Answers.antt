@@ -2,8 +2,9 @@ use Rattle.std.proofs.Common.{◌≡◌, ◌∙◌, ◌≤◌, ◌+◌, ◌-◌,
 use Rattle.std.specs.Prelude.{IsTrue, slice_range}
 use Rattle.std.proofs.lemmas.List.{length-replicate}
 use Rattle.qx_blocks.specs.BlockState.{BlockState, with_bytes}
+use Rattle.qx_ptree.proofs.PointerCounts.{size_positive}
 use Rattle.qx_file.specs.Puts.{with_part}
-use Rattle.qx_file.proofs.PartBytes.{part_puts, put_length, size_some, taken_length, part_of_fill}
+use Rattle.qx_file.proofs.PartBytes.{part_puts, put_length, taken_length, part_of_fill}
 use Rattle.qx_file.proofs.PutLeaves.{leaf_edit}
 use Rattle.qx_file.proofs.bytes.fill_leaf.Goals as goal
 
@@ -26,6 +27,6 @@ returns-clause-put g c =
     let written : g.B.Blocks.state (g.B.Blocks.edited c.ready_leaf-b.new.blocks b new) ≡ with_bytes x b new =
     g.met.B.Blocks.edits c.ready_leaf-b.new.blocks b new ready (put_length old part p.place p.count part_long room ∙ ap length c.edit.ensures.bytes) in
     let puts : new ≡ with_part m.holdings.size c.args.index c.args.at (replicate c.args.count c.args.byte) old =
-    part_puts m.holdings.size c.args.at c.args.index p.place p.from p.count (replicate c.args.count c.args.byte) old part (size_some m.holdings.size c.size.ensures.consistent.size) (rw length-replicate c.requires.has)
+    part_puts m.holdings.size c.args.at c.args.index p.place p.from p.count (replicate c.args.count c.args.byte) old part (size_positive m.holdings.size c.size.ensures.consistent.size) (rw length-replicate c.requires.has)
     (rw c.size.ensures.size at c.piece_in-piece.ensures.place) (rw c.size.ensures.size at c.piece_in-piece.ensures.from) (rw length-replicate (rw c.size.ensures.size at c.piece_in-piece.ensures.count)) part_is part_long in
     written ∙ ap (λ (n : BlockState). with_bytes n b new) same ∙ leaf_edit c.args.order m c.args.node.now c.args.at (replicate c.args.count c.args.byte) c.args.index b old new c.ready_leaf-b.ensures.pointer was puts

@@ -1,8 +1,9 @@
 use Rattle.std.proofs.Common.{◌<◌, ◌∙◌, replicate, length, arith, rules}
 use Rattle.std.proofs.lemmas.List.{length-replicate}
 use Rattle.qx_blocks.specs.BlockState.{BlockState}
+use Rattle.qx_ptree.proofs.PointerCounts.{size_positive}
 use Rattle.qx_file.specs.Puts.{CanPut, HasByte}
-use Rattle.qx_file.proofs.PartBytes.{has_between, has_last, size_some}
+use Rattle.qx_file.proofs.PartBytes.{has_between, has_last}
 use Rattle.qx_file.proofs.PutLeaves.{can_before, puts_all, puts_next}
 use Rattle.qx_file.proofs.bytes.put_fill.Goals as goal
 
@@ -21,7 +22,7 @@ loop-index-preserved g c =
     let can : CanPut c.args.order m c.args.node.now c.args.at (length (replicate c.args.count c.args.byte)) = rw length-replicate c.requires in
     let some : 0 < c.args.count = search (rules, arith) in
     let has : HasByte m.holdings.size c.args.at c.args.count c.loop-index.index =
-    has_between c.size-size.result m.holdings.size c.args.at c.args.count c.loop-index.index c.last_leaf-last.result (size_some m.holdings.size c.size-size.ensures.consistent.size) some
+    has_between c.size-size.result m.holdings.size c.args.at c.args.count c.loop-index.index c.last_leaf-last.result (size_positive m.holdings.size c.size-size.ensures.consistent.size) some
     c.size-size.ensures.size c.loop-index.auto.index c.loop-index-test.true c.last_leaf-last.ensures.last in
     record {
       puts = puts_next c.args.order c.args.node.now c.args.at (replicate c.args.count c.args.byte) m (g.B.Blocks.state c.loop-index.blocks) (g.B.Blocks.state c.fill_leaf.new.blocks) c.loop-index.index
@@ -36,7 +37,7 @@ returns-clause-puts g c =
     puts_all c.args.order c.args.node.now c.args.at (replicate c.args.count c.args.byte) m (g.B.Blocks.state c.loop-index.blocks) c.loop-index.index
     (λ i has.
     let one : HasByte m.holdings.size c.args.at c.args.count i = rw length-replicate at has in
-    omega (arith, c.loop-index-test.false, has_last c.size-size.result m.holdings.size c.args.at c.args.count i c.last_leaf-last.result (size_some m.holdings.size c.size-size.ensures.consistent.size) c.size-size.ensures.size c.last_leaf-last.ensures.last one))
+    omega (arith, c.loop-index-test.false, has_last c.size-size.result m.holdings.size c.args.at c.args.count i c.last_leaf-last.result (size_positive m.holdings.size c.size-size.ensures.consistent.size) c.size-size.ensures.size c.last_leaf-last.ensures.last one))
     c.loop-index.invariant.puts
 
 pub returns-clause-again : goal.returns-clause-again

@@ -14,20 +14,19 @@ use Rattle.qx_ptree.proofs.KeptPlans.{kept_again, kept_part, kept_plan, kept_rea
 use Rattle.qx_ptree.proofs.LeafParts.{new-ascends}
 use Rattle.qx_ptree.proofs.PartsOfBlocks.{part-done, part-more}
 use Rattle.qx_ptree.proofs.PartBounds.{child-fits, child-reach, few-all, few-fits, few-more, level-fits}
-use Rattle.qx_ptree.proofs.PlannedParts.{followed}
-use Rattle.qx_ptree.proofs.PlannedPointers.{IsToldPlan, planned_position}
+use Rattle.qx_ptree.proofs.PlannedPointers.{IsToldPlan, planned_position, planned_lead}
 use Rattle.qx_ptree.proofs.PointerCounts.{words_positive}
 use Rattle.qx_ptree.proofs.RowSlices.{of_part}
 use Rattle.qx_ptree.proofs.fresh_blocks.+part_at.Goals as goal
 
 pub alike_part-requires-clause-pointer : goal.alike_part-requires-clause-pointer
 alike_part-requires-clause-pointer g t c told =
-    followed (g.B.Blocks.state c.args.blocks.now) c.args.plan.now c.args.level c.args.index c.args.pointer c.leading-pointer.result
+    planned_lead (g.B.Blocks.state c.args.blocks.now) c.args.plan.now c.args.level c.args.index c.args.pointer c.leading-pointer.result
     (record { consistent = c.leading-pointer.ensures.consistent; long = c.requires.long; met = c.requires.plan; told = told }) (c.requires.pointer told) c.leading-pointer.ensures.same
 
 pub part_of_leaf-requires-clause-pointer : goal.part_of_leaf-requires-clause-pointer
 part_of_leaf-requires-clause-pointer g t c told =
-    followed (g.B.Blocks.state c.args.blocks.now) c.args.plan.now c.args.level c.args.index c.args.pointer c.leading-pointer.result
+    planned_lead (g.B.Blocks.state c.args.blocks.now) c.args.plan.now c.args.level c.args.index c.args.pointer c.leading-pointer.result
     (record { consistent = c.leading-pointer.ensures.consistent; long = c.requires.long; met = c.requires.plan; told = told }) (c.requires.pointer told) c.leading-pointer.ensures.same
     ∙ ap (λ k. planned_pointer c.args.plan.now (g.B.Blocks.state c.args.blocks.now) k c.args.index) c.if-level-eq0.true
 
@@ -37,7 +36,7 @@ returns-then-level-eq0-clause-part g t c told le =
 
 pub pointers_below-requires-clause-pointer : goal.pointers_below-requires-clause-pointer
 pointers_below-requires-clause-pointer g t c told =
-    followed (g.B.Blocks.state c.args.blocks.now) c.args.plan.now c.args.level c.args.index c.args.pointer c.leading-pointer.result
+    planned_lead (g.B.Blocks.state c.args.blocks.now) c.args.plan.now c.args.level c.args.index c.args.pointer c.leading-pointer.result
     (record { consistent = c.leading-pointer.ensures.consistent; long = c.requires.long; met = c.requires.plan; told = told }) (c.requires.pointer told) c.leading-pointer.ensures.same
 
 pub overflow_mul-child : goal.overflow_mul-child
@@ -119,7 +118,7 @@ returns-clause-part g t c = λ told le.
     let old : Shape = (alteration_in plan m).old in
     let all : c.loop-w.w ≡ per_block b = omega (arith, c.loop-w-test.false, c.loop-w.auto, c.pointers_below.ensures.long, c.size-words.ensures.size) in
     let known : IsToldPlan m plan = record { consistent = c.leading-pointer.ensures.consistent; long = c.requires.long; met = c.requires.plan; told = subst (λ x. IsTrue x.tells) (c.loop-w.invariant.keeps.told told) told } in
-    let pointer : c.leading-pointer.result ≡ planned_pointer plan m c.args.level c.args.index = followed m plan c.args.level c.args.index c.args.pointer c.leading-pointer.result known (c.requires.pointer known.told) c.leading-pointer.ensures.same in
+    let pointer : c.leading-pointer.result ≡ planned_pointer plan m c.args.level c.args.index = planned_lead m plan c.args.level c.args.index c.args.pointer c.leading-pointer.result known (c.requires.pointer known.told) c.leading-pointer.ensures.same in
     let had : not (c.leading-pointer.result == absent) ≡ has_position b old c.args.level c.args.index = ap (λ q. not (q == absent)) pointer ∙ sym (planned_position m plan c.args.level c.args.index known) in
     let private : c.is_private-private.result ≡ m.holdings.private (planned_pointer plan m c.args.level c.args.index) = c.is_private-private.ensures.private ∙ ap (λ h. h.private c.leading-pointer.result) c.loop-w.invariant.keeps.holdings ∙ ap m.holdings.private pointer in
     part-done (alteration_in plan m) c.args.level c.args.index c.loop-w.w c.own_need.result (not (c.leading-pointer.result == absent)) c.is_private-private.result c.loop-w.part

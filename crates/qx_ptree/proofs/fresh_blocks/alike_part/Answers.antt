@@ -6,8 +6,9 @@ use Rattle.qx_ptree.specs.declared.change.Fate.TheVariants.{Written}
 use Rattle.qx_ptree.specs.Parts.{full_below}
 use Rattle.qx_ptree.proofs.AlikeParts.{AllFare}
 use Rattle.qx_ptree.proofs.FullParts.{full-few_all}
-use Rattle.qx_ptree.proofs.PartBounds.{unwritten-none, power-some, words-bounds}
+use Rattle.qx_ptree.proofs.PartBounds.{unwritten-none, power-some}
 use Rattle.qx_ptree.proofs.PlannedParts.{alike-unwritten, alike-written}
+use Rattle.qx_ptree.proofs.PointerCounts.{words_bounds}
 use Rattle.qx_ptree.proofs.fresh_blocks.alike_part.Goals as goal
 
 pub returns-in-Written-2-clause-part : goal.returns-in-Written-2-clause-part
@@ -20,7 +21,7 @@ returns-in-Written-2-clause-part g c = λ told le.
 pub returns-in-Written-2-clause-few : goal.returns-in-Written-2-clause-few
 returns-in-Written-2-clause-few g c =
     let b : ℕ = (g.B.Blocks.state c.args.blocks.now).holdings.size in
-    subst (λ x. x + 1 ≤ 2 * per_block b ^ c.args.level) (sym (c.full.ensures ∙ ap (λ n. full_below (n / 4) c.args.level) c.size.ensures.size)) (full-few_all (per_block b) c.args.level (words-bounds b c.requires.consistent.size).0)
+    subst (λ x. x + 1 ≤ 2 * per_block b ^ c.args.level) (sym (c.full.ensures ∙ ap (λ n. full_below (n / 4) c.args.level) c.size.ensures.size)) (full-few_all (per_block b) c.args.level (words_bounds b c.requires.consistent.size).0)
 
 pub returns-in_default : goal.returns-in_default
 returns-in_default g c =

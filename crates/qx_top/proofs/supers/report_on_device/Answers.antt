@@ -1,13 +1,14 @@
 use Rattle.std.proofs.Common.{◌≡◌, length, IsTrue, ap, ◌∙◌}
 use Rattle.qx_outside.specs.Trail.{bytes_of}
+use Rattle.qx_outside.proofs.ToldLengths.{answered_is}
 use Rattle.qx_top.specs.Lines.{Report, report_read, supers_report}
-use Rattle.qx_top.proofs.Readings.{len_was, report_read-is}
+use Rattle.qx_top.proofs.Readings.{report_read-is}
 use Rattle.qx_top.proofs.supers.report_on_device.Given.{Over}
 use Rattle.qx_top.proofs.supers.report_on_device.Goals as goal
 
 -- where the device tells, its length is the one that was answered
 long : (g : Over) (c : goal.After-report_on_buffers g) → IsTrue (g.D.Dev.tells c.areas.new.host) → c.in_ok-len.len ≡ length (bytes_of (g.D.Dev.history c.areas.new.host))
-long g c told = len_was _ _ _ _ c.areas.ensures.extent (g.met.D.Dev.extent_is c.areas.new.host told) c.in_ok-len.ensures.value
+long g c told = answered_is _ _ _ _ c.areas.ensures.extent (g.met.D.Dev.extent_is c.areas.new.host told) c.in_ok-len.ensures.value
 
 -- where the device tells, what was read gives its report
 reported : (g : Over) (c : goal.After-report_on_buffers g) → IsTrue (g.D.Dev.tells c.areas.new.host) → report_read c.areas.new.first c.areas.new.second c.in_ok-len.len ≡ supers_report (bytes_of (g.D.Dev.history c.areas.new.host))

@@ -4,7 +4,8 @@ use Rattle.std.proofs.lemmas.Bool.{ne_eqb}
 use Rattle.qx_fields.specs.Number.{field}
 use Rattle.qx_geom.specs.Layout.{system_word_of}
 use Rattle.qx_geom.specs.Pointer.{per_block}
-use Rattle.qx_walk.proofs.PointerWords.{all_below, not_below}
+use Rattle.qx_geom.proofs.Members.{all_below}
+use Rattle.qx_walk.proofs.PointerWords.{not_below}
 use Rattle.qx_walk.proofs.halves.are_words_of.Goals as goal
 
 pub returns-then-get32-system_word : goal.returns-then-get32-system_word

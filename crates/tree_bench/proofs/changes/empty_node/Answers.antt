@@ -1,6 +1,7 @@
 use Rattle.std.proofs.Common.{arith, rules}
-use Rattle.qx_file.proofs.EmptyFiles.{empty_regular, empty_works}
-use Rattle.qx_file.proofs.PartBytes.{size_some}
+use Rattle.qx_ptree.proofs.PointerCounts.{size_positive}
+use Rattle.qx_ptree.proofs.EmptyNodes.{empty-regular}
+use Rattle.qx_file.proofs.EmptyFiles.{empty_works}
 use Rattle.tree_bench.proofs.changes.empty_node.Goals as goal
 
 pub returns : goal.returns
@@ -9,5 +10,5 @@ returns g c =
     record {
       levels = search (rules, arith);
       works = λ _. empty_works c.args.order m;
-      regular = λ _. empty_regular c.args.order m (size_some m.holdings.size c.size-size.ensures.consistent.size);
+      regular = λ _. empty-regular c.args.order m (size_positive m.holdings.size c.size-size.ensures.consistent.size);
     }
