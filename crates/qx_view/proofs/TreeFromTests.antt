@@ -1,31 +1,27 @@
 -- Where no test of the walk fails, the blocks have a tree.
-use Rattle.std.proofs.Common.{◌≡◌, ◌≢◌, ℕ, zero, suc, ◌+◌, ◌*◌, ◌/◌, ◌<◌, inl, inr, List, [], ◌∷◌, ◌++◌, refl, sym, ◌∙◌, ap, subst, arith, add-one}
-use Rattle.std.specs.Prelude.{Bool, true, false, ◌||◌, ◌&&◌, not, nat_le, nat_lt, ◌==◌, if◌then◌else◌, Option, Some, None, is_some, Contains, map, flat_map, filter_map, slice_get, slice_index, slice_range}
-use Rattle.std.proofs.lemmas.Bool.{eq-eqb, leb-true}
+use Rattle.std.proofs.Common.{◌≡◌, ◌≢◌, ℕ, zero, suc, ◌+◌, ◌/◌, ◌<◌, inl, inr, [], ◌∷◌, ◌++◌, refl, sym, ◌∙◌, ap, subst, arith, add-one}
+use Rattle.std.specs.Prelude.{true, false, ◌&&◌, not, nat_lt, ◌==◌, if◌then◌else◌, Option, Some, None, is_some, Contains, map, flat_map, filter_map, slice_get}
+use Rattle.std.proofs.lemmas.Bool.{leb-true}
 use Rattle.qx_geom.specs.declared.root.Root.{Root}
-use Rattle.qx_fields.specs.declared.order.Order.{Order}
 use Rattle.qx_records.specs.declared.kind.Kind.{Kind}
 use Rattle.qx_model.specs.declared.attr.Attr.{Attr}
 use Rattle.qx_records.specs.declared.kind.Kind.TheVariants as kinds
-use Rattle.qx_fields.specs.Number.{field, number}
 use Rattle.qx_geom.proofs.Truths.{and_right, true_or_false}
 use Rattle.qx_geom.specs.Lists.{each_below, is_in}
 use Rattle.qx_geom.specs.Pointer.{absent}
-use Rattle.qx_model.specs.Tree.{Directory, Entry, IsDirectory, Names, NamesAt, Reached, Row, Slot, Unused, down, entry_of, is_dots, named_by, slots_of, slots_of_body, slots_of_entry, top}
+use Rattle.qx_model.specs.Tree.{Directory, Entry, IsDirectory, Names, NamesAt, Reached, Slot, down, entry_of, slots_of, slots_of_body, slots_of_entry, top}
 use Rattle.qx_nodes.specs.BlockMap.{BlockMap}
-use Rattle.qx_nodes.specs.Content.{HasSize, levels_fit, piece_of}
+use Rattle.qx_nodes.specs.Content.{HasSize, levels_fit}
 use Rattle.qx_records.specs.InodeRecord.{kind_of}
-use Rattle.qx_records.specs.NameRecord.{Bad, Long, Short, raw_in}
 use Rattle.qx_records.specs.NameRecord as records
-use Rattle.qx_records.specs.NameSum.{sum_fits}
-use Rattle.qx_view.proofs.DirectoryTests.{DirectoryFound, IsRow, IsThere, directory_kind, directory_passes, named_passes, named_row, names_in_directory, read_self}
-use Rattle.qx_view.proofs.PassingTests.{NodePasses, Passing, RowPasses, SlotsPass, fresh_directory, names_differ, node_passes, passing_each, passing_parts, passing_tested, records_pass, row_at}
+use Rattle.qx_view.proofs.DirectoryTests.{DirectoryFound, IsThere, directory_kind, directory_passes, named_passes, names_in_directory, read_self}
+use Rattle.qx_view.proofs.PassingTests.{NodePasses, Passing, SlotsPass, fresh_directory, names_differ, node_passes, passing_each, passing_parts, passing_tested, row_at}
 use Rattle.qx_view.proofs.TakenInodes.{HasParent, once_within, taken_listed, taken_order, taken_parent}
-use Rattle.qx_view.proofs.TreeFound.{NamedAt, TakenWith, body_found, each_self, entry_as, entry_found, entry_in, found_slots, in_entry, names_to_slots, parent_in, slots_found, slots_to_names, taken_with, tree_found}
+use Rattle.qx_view.proofs.TreeFound.{NamedAt, TakenWith, body_found, entry_as, entry_found, entry_in, found_slots, in_entry, names_to_slots, parent_in, slots_found, slots_to_names, taken_with, tree_found}
 use Rattle.qx_view.proofs.WalkEnds.{Named, RowsInRange, first, inodes, next, walk_closed, walk_is_least}
-use Rattle.qx_view.specs.Images.{Roots, has_inode, inode_of, inode_places, long_name, raw_of}
-use Rattle.qx_view.specs.Reading.{AreRows, IsEntry, IsOfKind, IsRooted, attr_of, long_slot, slot_of, slots_read}
-use Rattle.qx_view.specs.Walk.{Taken, Tested, finding_of, inode_mode, inode_root, inode_tests, is_directory_inode, is_directory_kind, kind_tests, named_inode, named_inodes, node_tests, records_tests, root_tests, taken_from, taken_of, tests_of, top_tests}
+use Rattle.qx_view.specs.Images.{Roots, has_inode, inode_of, inode_places, raw_of}
+use Rattle.qx_view.specs.Reading.{AreRows, IsEntry, IsOfKind, IsRooted, attr_of, slot_of, slots_read}
+use Rattle.qx_view.specs.Walk.{Tested, finding_of, inode_mode, inode_root, inode_tests, is_directory_inode, is_directory_kind, kind_tests, named_inode, named_inodes, node_tests, root_tests, taken_from, taken_of, tests_of, top_tests}
 
 module _ (m : BlockMap) (r : Roots) (s : HasSize m) (none : finding_of m r ≡ None) where
   -- all tests pass

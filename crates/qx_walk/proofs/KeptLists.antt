@@ -1,6 +1,6 @@
 -- What a directory's records leave behind, taken one after another and all at once.
-use Rattle.std.proofs.Common.{◌≡◌, ℕ, ◌+◌, List, [], ◌∷◌, ◌++◌, refl, ap, sym, ◌∙◌, subst, arith, append_assoc}
-use Rattle.std.specs.Prelude.{Bool, true, false, cond, ◌||◌, if◌then◌else◌, ◌==◌, nat_eq, Option, Some, None, option_to_list, filter_map, map}
+use Rattle.std.proofs.Common.{◌≡◌, ℕ, List, [], ◌∷◌, ◌++◌, refl, ap, sym, ◌∙◌, subst, arith, append_assoc}
+use Rattle.std.specs.Prelude.{Bool, true, false, cond, ◌||◌, if◌then◌else◌, nat_eq, Option, Some, None, option_to_list, map}
 use Rattle.std.specs.List.{cons_option, count_by}
 use Rattle.std.proofs.lemmas.List.{append-nil}
 use Rattle.std.proofs.lemmas.Bool.{eqb-true}
@@ -8,7 +8,6 @@ use Rattle.std.proofs.lemmas.List.Sums.{sum_by-append}
 use Rattle.qx_geom.specs.Lists.{is_in}
 use Rattle.qx_geom.specs.declared.root.Root.{Root}
 use Rattle.qx_nodes.specs.BlockMap.{BlockMap}
-use Rattle.qx_records.specs.NameRecord.{RawRecord}
 use Rattle.qx_view.specs.Images.{Roots, raw_of, record_block}
 use Rattle.qx_view.specs.Sound.{long_number, numbers_named_in}
 use Rattle.qx_view.specs.Walk.{inodes_named_in, listed_after, named_inode, new_ones, record_tests, records_tests, Test}

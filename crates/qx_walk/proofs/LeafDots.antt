@@ -1,5 +1,5 @@
 -- A directory that is laid out as this project does begins in a present leaf.
-use Rattle.std.proofs.Common.{◌≡◌, ℕ, zero, suc, ◌+◌, ◌-◌, ◌*◌, ◌/◌, ◌%◌, ◌<◌, ◌≤◌, inl, inr, List, [], ◌∷◌, length, refl, ap, sym, ◌∙◌, subst, arith}
+use Rattle.std.proofs.Common.{◌≡◌, ℕ, ◌+◌, ◌-◌, ◌*◌, ◌/◌, ◌%◌, ◌<◌, ◌≤◌, inl, inr, List, [], ◌∷◌, length, refl, ap, sym, ◌∙◌, subst, arith}
 use Rattle.std.specs.Prelude.{All, Bool, true, false, ◌||◌, ◌&&◌, not, ◌==◌, Contains, slice_range}
 use Rattle.std.proofs.lemmas.Bool.{cases_eq, eqb-false, eqb-true}
 use Rattle.std.proofs.lemmas.List.Elements.{All-contains}
@@ -16,7 +16,7 @@ use Rattle.qx_nodes.specs.Visits.{present_of}
 use Rattle.qx_records.specs.NameRecord.{raw_in}
 use Rattle.qx_view.specs.Images.{raw_of}
 use Rattle.qx_view.specs.Sound.{is_foreign_directory, is_short}
-use Rattle.qx_walk.proofs.LeafLists.{listed_number, numbers_of, numbers_present}
+use Rattle.qx_walk.proofs.LeafLists.{listed_number, numbers_present}
 use Rattle.qx_walk.proofs.LeafRecords.{leaf_record}
 use Rattle.qx_pointers.specs.declared.node.LeafPlace.{LeafPlace}
 use Rattle.qx_pointers.specs.declared.source.Shape.{Shape}

@@ -10,7 +10,7 @@ use Rattle.qx_geom.specs.Layout.{is_block_size}
 use Rattle.qx_geom.specs.declared.root.Root.{Root}
 use Rattle.qx_nodes.specs.BlockMap.{BlockMap}
 use Rattle.qx_nodes.specs.Content.{bytes_at_leaf}
-use Rattle.qx_nodes.specs.Leaves.{Block, Leaf, leaf_of}
+use Rattle.qx_nodes.specs.Leaves.{Block, leaf_of}
 use Rattle.qx_records.specs.NameRecord.{Bad, Long, RawRecord, Short, Unused, raw_in}
 use Rattle.qx_view.specs.Images.{block_at_leaf, raw_of, record_block}
 use Rattle.qx_view.proofs.TreeLocality.{record_below}

@@ -1,6 +1,6 @@
 -- The records of a directory's leaves, gone through leaf by leaf.
-use Rattle.std.proofs.Common.{◌≡◌, ℕ, zero, suc, ◌+◌, ◌-◌, ◌*◌, ◌/◌, ◌%◌, ◌<◌, ◌≤◌, List, [], ◌∷◌, ◌++◌, length, get_or, take, drop, refl, ap, sym, ◌∙◌, subst, arith, append_assoc}
-use Rattle.std.specs.Prelude.{Result, Ok, Err, flat_map, map, slice_range}
+use Rattle.std.proofs.Common.{◌≡◌, ℕ, zero, suc, ◌+◌, ◌-◌, ◌*◌, ◌/◌, ◌%◌, ◌<◌, List, [], ◌∷◌, ◌++◌, length, get_or, take, drop, refl, ap, sym, ◌∙◌, subst, arith, append_assoc}
+use Rattle.std.specs.Prelude.{Result, Ok, Err, flat_map, slice_range}
 use Rattle.std.specs.List.{range_with_len}
 use Rattle.std.proofs.lemmas.Grind.{flat_map-append}
 use Rattle.std.proofs.lemmas.List.{append-nil, take-append-drop, take_more}
@@ -9,10 +9,9 @@ use Rattle.qx_fields.specs.declared.order.Order.{Order}
 use Rattle.qx_geom.specs.declared.root.Root.{Root}
 use Rattle.qx_nodes.specs.BlockMap.{BlockMap}
 use Rattle.qx_nodes.specs.Leaves.{Block, leaf_of}
-use Rattle.qx_nodes.specs.Visits.{present_of}
 use Rattle.qx_records.specs.NameRecord.{RawRecord, raw_in}
 use Rattle.qx_view.specs.Images.{Roots, leaf_records, present_records, raw_of, record_block}
-use Rattle.qx_walk.proofs.LeafLists.{numbers_of, numbers_present}
+use Rattle.qx_walk.proofs.LeafLists.{numbers_present}
 use Rattle.qx_walk.proofs.LeafRecords.{leaf_block, leaf_record}
 use Rattle.qx_walk.proofs.RowsInOrder.{walks_halts, walks_more, walks_one}
 use Rattle.qx_pointers.specs.declared.halt.Halt.{Halt}

@@ -2,7 +2,6 @@
 use Rattle.std.proofs.Common.{◌≡◌, ℕ, List, [], ◌∷◌, ◌++◌, refl, ap, sym, ◌∙◌, subst}
 use Rattle.std.specs.Prelude.{Bool, true, false, not, ◌&&◌, ◌==◌, Option, Some, None, is_some, unwrap_or, Result, Ok, Err, OnErr, OnOk, bytes_eq, length, map, option_and_then, if◌then◌else◌}
 use Rattle.std.specs.List.{list_any}
-use Rattle.std.proofs.lemmas.List.{append-nil}
 use Rattle.qx_geom.specs.Lists.{is_in}
 use Rattle.qx_model.specs.Tree.{Row, is_dots, named_by}
 use Rattle.qx_nodes.specs.BlockMap.{BlockMap}
@@ -17,7 +16,7 @@ use Rattle.qx_walk.proofs.RowsInOrder.{listed_same}
 use Rattle.qx_pointers.specs.declared.halt.Halt.{Halt}
 use Rattle.qx_pointers.specs.declared.halt.Halt.TheVariants as halts
 use Rattle.qx_walk.specs.declared.seen.Seen.{Seen}
-use Rattle.qx_pointers.specs.Halts.{Answers, HaltsAt}
+use Rattle.qx_pointers.specs.Halts.{HaltsAt}
 use Rattle.qx_walk.specs.Kept.{Kept, with_row}
 use Rattle.qx_walk.specs.Rows.{Holds, WalksRecord, WalksRow}
 use Rattle.qx_walk.specs.Tables.{HasListed, HasNames, HoldsNames}

@@ -1,6 +1,6 @@
 -- A directory's records, gone through one after another.
 use Rattle.std.proofs.Common.{◌≡◌, ℕ, List, [], ◌∷◌, ◌++◌, ◌≤◌, refl, ap, sym, ◌∙◌, subst, arith}
-use Rattle.std.specs.Prelude.{Bool, true, false, IsTrue, Option, Some, None, Result, Ok, Err, OnOk, IfOk, count_by, ◌==◌, ◌%◌, map, min}
+use Rattle.std.specs.Prelude.{Bool, false, IsTrue, Option, None, Result, Ok, Err, OnOk, IfOk, count_by, ◌==◌, ◌%◌, map, min}
 use Rattle.std.proofs.lemmas.List.{append-nil}
 use Rattle.std.proofs.lemmas.Result.{on_ok_weaker}
 use Rattle.qx_geom.specs.declared.root.Root.{Root}
@@ -17,14 +17,13 @@ use Rattle.qx_pointers.proofs.ShownBlocks.{rose_from}
 use Rattle.qx_pointers.specs.declared.halt.Halt.{Halt}
 use Rattle.qx_pointers.specs.declared.halt.Halt.TheVariants as halts
 use Rattle.qx_walk.specs.declared.listing.Listing.{Listing}
-use Rattle.qx_walk.specs.declared.long_names.LongLeaf.{LongLeaf}
 use Rattle.qx_walk.specs.declared.long_names.LongNames.{LongNames}
 use Rattle.qx_walk.specs.declared.seen.Directory.{Directory}
 use Rattle.qx_walk.specs.declared.seen.Seen.{Seen}
 use Rattle.qx_pointers.specs.Halts.{Answers, HaltsAt, IsCaused}
-use Rattle.qx_walk.specs.Kept.{Kept, with_record, with_records}
+use Rattle.qx_walk.specs.Kept.{Kept, with_records}
 use Rattle.qx_walk.specs.Rows.{Holds, WalksRecord, WalksRecords, WalksThrough, begins_with_dots}
-use Rattle.qx_walk.specs.Tables.{HasListed, HoldsNames, times_named}
+use Rattle.qx_walk.specs.Tables.{HasListed, HoldsNames}
 
 -- ---- the first finding of two
 

@@ -1,5 +1,5 @@
 -- What is said of an image by the parts of a walk over a device that shows it.
-use Rattle.std.proofs.Common.{◌≡◌, ℕ, ◌≤◌, List, [], ◌∷◌, length, refl, sym, ◌∙◌, ap, subst, arith}
+use Rattle.std.proofs.Common.{◌≡◌, ℕ, List, length, refl, sym, ◌∙◌, ap, arith}
 use Rattle.std.specs.Prelude.{Bool, IfSome, IsTrue, Option, Some, None, ◌-◌}
 use Rattle.std.specs.Option.{option_map}
 use Rattle.qx_blockset.specs.Members.{count_of, limit_of}
@@ -12,13 +12,12 @@ use Rattle.qx_pointers.specs.declared.halt.Halt.{Halt}
 use Rattle.qx_pointers.specs.declared.halt.Halt.TheVariants as halts
 use Rattle.qx_pointers.specs.declared.source.Shape.{Shape}
 use Rattle.qx_pointers.specs.Halts.{HaltsAt}
-use Rattle.qx_pointers.specs.Marks.{Marks}
-use Rattle.qx_pointers.specs.Shown.{JustReads, Shows, shape_blocks}
+use Rattle.qx_pointers.specs.Shown.{JustReads, Shows}
 use Rattle.qx_super.specs.Active.{active_area, active_super}
 use Rattle.qx_super.specs.Superblock.{Superblock}
 use Rattle.qx_super.specs.declared.choice.Pick.TheVariants as picks
 use Rattle.qx_view.proofs.ImageTrees.{HasSize-image_blocks}
-use Rattle.qx_view.specs.Images.{Roots, block_bytes, image_blocks, main_roots}
+use Rattle.qx_view.specs.Images.{block_bytes, image_blocks, main_roots}
 use Rattle.qx_view.specs.Sound.{last_with, reason_with, verdict_of, written_geometry}
 use Rattle.qx_view.specs.Usage.{met_blocks}
 use Rattle.qx_view.specs.Walk.{finding_of}
@@ -28,7 +27,7 @@ use Rattle.qx_walk.specs.declared.survey.Foreign.{Foreign}
 use Rattle.qx_walk.specs.declared.walked.Walked.{Walked}
 use Rattle.qx_walk.specs.Layouts.{IsLast, IsNamed, IsShapeOf, reason_in}
 use Rattle.qx_walk.specs.Surveys.{IsFault, IsSurvey, fault_of, free_by, free_if, survey_by, verdict_if}
-use Rattle.qx_walk.specs.Trees.{HasBounds, IsWalked}
+use Rattle.qx_walk.specs.Trees.{IsWalked}
 
 -- a device that still tells its bytes shows the blocks of the active superblock's volume
 pub shown_blocks : {D : Type 0} (tells : D → Bool) (history : D → History) (attached : D → Option (List Attachment)) (con_faults : D → ℕ) (shape : Shape) (s : Superblock) (img : List ℕ) (old new : D)

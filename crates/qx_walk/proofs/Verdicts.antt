@@ -1,6 +1,6 @@
 -- The verdict on an image, by the parts of which the walk asks one after another.
-use Rattle.std.proofs.Common.{◌≡◌, ℕ, List, length, sym, ◌∙◌, ap}
-use Rattle.std.specs.Prelude.{Option, Some, None}
+use Rattle.std.proofs.Common.{◌≡◌, ℕ, List, length, ◌∙◌, ap}
+use Rattle.std.specs.Prelude.{Some, None}
 use Rattle.qx_geom.specs.declared.area.Which.{Which}
 use Rattle.qx_super.specs.Active.{active_area, active_super}
 use Rattle.qx_super.specs.Superblock.{Superblock}

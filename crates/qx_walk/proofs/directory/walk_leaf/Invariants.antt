@@ -1,4 +1,4 @@
-use Rattle.std.proofs.Common.{◌≡◌, ◌≤◌, ◌*◌, ◌/◌, ℕ, List, length}
+use Rattle.std.proofs.Common.{◌≡◌, ◌≤◌, ◌*◌, ◌/◌, ℕ}
 use Rattle.std.specs.Prelude.{Ok}
 use Rattle.std.specs.List.{range_with_len}
 use Rattle.qx_nodes.specs.BlockMap.{BlockMap}

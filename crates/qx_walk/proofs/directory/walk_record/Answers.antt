@@ -1,4 +1,4 @@
-use Rattle.std.proofs.Common.{◌≡◌, ap, sym, subst}
+use Rattle.std.proofs.Common.{ap, sym, subst}
 use Rattle.qx_records.specs.Slots.{raw_of_slot}
 use Rattle.qx_walk.proofs.RowTests.{short_walks}
 use Rattle.qx_walk.specs.Rows.{WalksRecord, record_place}

@@ -1,5 +1,5 @@
-use Rattle.std.proofs.Common.{◌≡◌, ◌≤◌, ◌*◌, ◌/◌, ℕ, List, length, take}
-use Rattle.std.specs.Prelude.{Ok, true, Bool, Contains}
+use Rattle.std.proofs.Common.{◌≡◌, ◌≤◌, ℕ, List, take}
+use Rattle.std.specs.Prelude.{Ok, Contains}
 use Rattle.qx_nodes.specs.BlockMap.{BlockMap}
 use Rattle.qx_view.specs.Images.{Roots}
 use Rattle.qx_walk.proofs.LeafWalks.{records_of}

@@ -1,10 +1,9 @@
-use Rattle.std.proofs.Common.{◌≡◌, ℕ, Bool, true, refl, sym, ◌∙◌, ap, subst}
-use Rattle.std.specs.Prelude.{Some, not, is_some, ◌&&◌, nat_le, nat_lt, ◌/◌, ◌^◌, ◌-◌, ◌≤◌, if◌then◌else◌}
+use Rattle.std.proofs.Common.{◌≡◌, ℕ, true, sym, ◌∙◌, ap, subst}
+use Rattle.std.specs.Prelude.{Some, not, is_some, ◌&&◌, nat_lt, ◌/◌, ◌^◌, ◌-◌, ◌≤◌, if◌then◌else◌}
 use Rattle.std.proofs.lemmas.Bool.{le-leb}
 use Rattle.qx_geom.specs.Lists.{is_in}
 use Rattle.qx_records.specs.InodeRecord.{kind_of}
 use Rattle.qx_records.specs.declared.inode.Inode.{Inode}
-use Rattle.qx_view.specs.Images.{has_inode}
 use Rattle.qx_view.specs.Walk.{inode_mode, is_directory_kind}
 use Rattle.qx_walk.proofs.RowTests.{walks_again, walks_row}
 use Rattle.qx_walk.specs.Rows.{record_place}

@@ -1,6 +1,6 @@
-use Rattle.std.proofs.Common.{sym, ◌∙◌, ap, subst, Some}
+use Rattle.std.proofs.Common.{sym, ◌∙◌, ap, subst}
 use Rattle.std.specs.Prelude.{IfSome}
-use Rattle.qx_view.specs.Sound.{last_with, reason_with, written_geometry}
+use Rattle.qx_view.specs.Sound.{last_with, reason_with}
 use Rattle.qx_walk.specs.Layouts.{HasNumbers, IsLast}
 use Rattle.qx_walk.proofs.layout.last_of.Goals as goal
 

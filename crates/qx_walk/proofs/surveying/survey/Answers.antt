@@ -1,10 +1,8 @@
-use Rattle.std.proofs.Common.{◌≡◌, List, [], ◌∷◌, length, refl, sym, ◌∙◌, ap, subst, Some, None, IsTrue}
+use Rattle.std.proofs.Common.{◌≡◌, [], ◌∷◌, length, refl, sym, ◌∙◌, ap, subst, None}
 use Rattle.std.specs.Prelude.{IfSome}
 use Rattle.std.specs.Option.{option_map}
 use Rattle.qx_nodes.specs.BlockMap.{BlockMap}
-use Rattle.qx_outside.specs.Trail.{bytes_of}
 use Rattle.qx_pointers.specs.Halts.{HaltsAt}
-use Rattle.qx_pointers.specs.Shown.{JustReads, Shows}
 use Rattle.qx_pointers.proofs.ShownBlocks.{reads_then, shows_before}
 use Rattle.qx_super.specs.Superblock.{Superblock}
 use Rattle.qx_view.specs.Images.{Roots, image_blocks, main_roots}

@@ -1,6 +1,6 @@
-use Rattle.std.proofs.Common.{◌≡◌, ℕ, List, length, refl, sym, ◌∙◌, ap, subst, Some, IsTrue}
+use Rattle.std.proofs.Common.{◌≡◌, ℕ, List, length, refl, sym, ◌∙◌, subst, Some, IsTrue}
 use Rattle.qx_outside.specs.Trail.{bytes_of}
-use Rattle.qx_super.specs.Active.{active_area, active_super, first_read, second_read, super_of_pick}
+use Rattle.qx_super.specs.Active.{active_area, active_super}
 use Rattle.qx_super.specs.declared.choice.Pick.TheVariants as picks
 use Rattle.qx_walk.specs.Surveys.{SaysOf}
 use Rattle.qx_walk.proofs.ReadAreas.{active_read, fits_active, told_length}

@@ -1,5 +1,4 @@
 use Rattle.std.proofs.Common.{arith}
-use Rattle.std.proofs.Math.Facts.{Fits-mask}
 use Rattle.qx_blockset.proofs.BytesOfWords.{byte-below, byte-test}
 use Rattle.qx_blockset.proofs.set.BlockSet.byte.Goals as goal
 
