@@ -233,6 +233,3 @@ fn rounded_down(len: u64) -> u64
 {
     len / 4096 * 4096
 }
-
-#[cfg(test)]
-mod tests;

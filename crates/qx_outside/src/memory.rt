@@ -112,6 +112,3 @@ impl MemHost {
         Ok(all)
     }
 }
-
-#[cfg(test)]
-mod tests;

@@ -122,6 +122,3 @@ impl<'a> Iterator for Records<'a> {
         })
     }
 }
-
-#[cfg(test)]
-mod tests;

@@ -111,6 +111,3 @@ pub fn write_inode(inode: &Inode, order: Order, into: &mut [u8])
     into[100] = inode.root.levels;
     into[101] = inode.status;
 }
-
-#[cfg(test)]
-mod tests;

@@ -47,28 +47,3 @@ pub fn kind_number(mode: u16) -> u8
 {
     Kind::of(mode).map_or(0, Kind::number)
 }
-
-#[cfg(test)]
-mod tests {
-    use super::*;
-
-    /// The file types of POSIX, as `sys/stat.h` has them.
-    #[test]
-    fn a_mode_says_one_kind_or_none(rt: HostRuntime) {
-        let cases = [
-            ("directory", 0o040755, Some(Kind::Directory), 1),
-            ("file", 0o100644, Some(Kind::File), 2),
-            ("link", 0o120777, Some(Kind::Link), 3),
-            ("pipe", 0o010600, Some(Kind::Special), 4),
-            ("character device", 0o020666, Some(Kind::Special), 4),
-            ("block device", 0o060660, Some(Kind::Special), 4),
-            ("socket", 0o140777, Some(Kind::Special), 4),
-            ("no type", 0o007777, None, 0),
-            ("all bits", 0o177777, None, 0),
-        ];
-        for (name, mode, kind, number) in cases {
-            assert_eq!(rt; Kind::of(mode), kind, "{name}");
-            assert_eq!(rt; kind_number(mode), number, "{name}");
-        }
-    }
-}

@@ -8,13 +8,9 @@
 mod active;
 mod choice;
 mod division;
-#[cfg(test)]
-mod example;
 mod laws;
 mod nodes;
 mod reading;
-#[cfg(test)]
-mod samples;
 mod superblock;
 mod writing;
 

@@ -1,6 +1,6 @@
 use Rattle.std.proofs.Common.{◌≡◌, find, not}
 use Rattle.qx_records.specs.Slots.{is_in_use, records_in}
-use Rattle.qx_records.proofs.directory.tests.first_unused.Given as goal
+use Rattle.format_tests.proofs.directory.first_unused.Given as goal
 
 abbrev pub invariant-loop-record : goal.invariant-loop-record
 invariant-loop-record l =

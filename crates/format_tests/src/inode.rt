@@ -1,7 +1,10 @@
-use super::*;
-use qx_geom::ABSENT;
+//! An inode, read and written in both orders.
 
-/// An inode with a value of its own in each field, packed by the format's table by a script that has no part of this crate.
+use qx_fields::Order;
+use qx_geom::{ABSENT, Root};
+use qx_records::{Inode, InodeView, write_inode};
+
+/// An inode with a value of its own in each field, packed by the format's table by a script that has no part of qx_records.
 const LITTLE: [u8; 128] = [
     0x08, 0x07, 0x06, 0x05, 0x04, 0x03, 0x02, 0x01, 0xE8, 0x03, 0, 0, 0x04, 0x03, 0x02, 0x01, 0x11,
     0x11, 0x11, 0x11, 0x22, 0x22, 0x22, 0x22, 0x33, 0x33, 0x33, 0x33, 0x45, 0x44, 0x44, 0x44, 0xED,

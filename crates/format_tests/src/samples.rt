@@ -1,7 +1,7 @@
 //! Superblocks for tests, with a right checksum.
 
-use crate::{MAGIC, checksum};
 use qx_fields::{Order, put32, put64};
+use qx_super::{MAGIC, checksum};
 
 /// The numbers of a superblock that tests turn.
 #[derive(Clone, Copy)]

@@ -1,9 +1,24 @@
 //! The numbers of some volumes, and the pointers of their system trees.
+ghost use Rattle.std.specs.Prelude.{IfOk};
 ghost use Rattle.qx_geom.specs.Layout.{IsGeometry};
 
-use super::*;
-use std::process::Abort;
-use std::test::Fail;
+use qx_geom::{ABSENT, GeomFault, Geometry, Root, Which};
+
+/// A volume: the bytes of its device, those of a block, and its inodes.
+type Volume = (u64, u32, u32);
+
+/// The volume's numbers, if it has any.
+fn numbers(volume: Volume) -> Result<Geometry, GeomFault>
+    ensures { IfOk result IsGeometry }
+{
+    Geometry::new(volume.0, volume.1, volume.2)
+}
+
+/// Its blocks, those of a half, and those of no half.
+fn block_counts(volume: Volume) -> Result<(u32, u32, u32), GeomFault> {
+    let g = numbers(volume)?;
+    Ok((g.num_blocks, g.half, g.user()))
+}
 
 #[test]
 fn the_numbers_follow_from_the_length(rt: HostRuntime) {
@@ -36,11 +51,7 @@ fn the_numbers_follow_from_the_length(rt: HostRuntime) {
         ("nothing at all", 0, 0, 0, size),
     ];
     for (name, len, blocksize, inodes, want) in cases {
-        let got = match Geometry::new(len, blocksize, inodes) {
-            Ok(g) => Ok((g.num_blocks, g.half, g.user())),
-            Err(fault) => Err(fault),
-        };
-        assert_eq!(rt; got, want, "{name}");
+        assert_eq!(rt; block_counts((len, blocksize, inodes)), want, "{name}");
     }
 }
 
@@ -66,24 +77,48 @@ fn a_volume_has_two_to_the_28_blocks_at_most(rt: HostRuntime) {
     }
 }
 
+/// Its bytes, those of a block, and its inodes, from which the other numbers follow.
+fn given(volume: Volume) -> Result<Volume, GeomFault> {
+    let g = numbers(volume)?;
+    Ok((g.len4, g.blocksize, g.num_inodes))
+}
+
+/// The leaves and pointer blocks of its bitmap, and of its inodes.
+fn parts(volume: Volume) -> Result<(u32, u32, u32, u32), GeomFault> {
+    let g = numbers(volume)?;
+    Ok((
+        g.bitmap_leaves,
+        g.bitmap_pointers,
+        g.inode_leaves,
+        g.inode_pointers,
+    ))
+}
+
+/// The bytes at which its areas stand.
+fn areas(volume: Volume) -> Result<(u64, u64), GeomFault> {
+    let g = numbers(volume)?;
+    Ok((g.area(Which::First), g.area(Which::Second)))
+}
+
+/// The byte at which a block stands, where the volume has the block.
+fn place(volume: Volume, block: u32) -> Result<Option<u64>, GeomFault> {
+    let g = numbers(volume)?;
+    if block < g.num_blocks {
+        Ok(Some(g.place(block)))
+    } else {
+        Ok(None)
+    }
+}
+
 #[test]
-fn the_parts_of_a_half(rt: HostRuntime) -> Result<(), Fail> {
-    let g = Geometry::new(16_777_216, 512, 4096)?;
-    assert_eq!(rt;
-        (g.len4, g.blocksize, g.num_inodes),
-        (16_777_216, 512, 4096)
-    );
-    assert_eq!(rt; (g.bitmap_leaves, g.bitmap_pointers), (8, 0));
-    assert_eq!(rt; (g.inode_leaves, g.inode_pointers), (1024, 8));
-    assert_eq!(rt; g.area(Which::First), 8192);
-    assert_eq!(rt; g.area(Which::Second), 16_773_120);
-    assert_eq!(rt;
-        Geometry::new(1_048_576, 4096, 256)?.area(Which::Second),
-        1_044_480
-    );
-    assert!(rt; 32735 < g.num_blocks);
-    assert_eq!(rt; (g.place(0), g.place(32735)), (12288, 16_772_608));
-    Ok(())
+fn the_parts_of_a_half(rt: HostRuntime) {
+    let volume = (16_777_216, 512, 4096);
+    assert_eq!(rt; given(volume), Ok(volume));
+    assert_eq!(rt; parts(volume), Ok((8, 0, 1024, 8)));
+    assert_eq!(rt; areas(volume), Ok((8192, 16_773_120)));
+    assert_eq!(rt; areas((1_048_576, 4096, 256)), Ok((8192, 1_044_480)));
+    let places = (place(volume, 0), place(volume, 32735));
+    assert_eq!(rt; places, (Ok(Some(12288)), Ok(Some(16_772_608))));
 }
 
 /// 16 pointers to blocks in a row, absent from the `count`th on.
@@ -97,10 +132,15 @@ fn pointers(from: u32, count: u32) -> [u32; 16] {
     pointers
 }
 
+/// The Bitmap root node of an area, or its Inode root node.
+fn root(volume: Volume, which: Which, bitmap: bool) -> Result<Root, GeomFault> {
+    Ok(numbers(volume)?.system_root(which, bitmap))
+}
+
 #[test]
-fn the_root_nodes_of_an_area(rt: HostRuntime) -> Result<(), Fail> {
-    let few = Geometry::new(16_777_216, 512, 4000)?;
-    let many = Geometry::new(137_438_969_856, 512, 1_048_576)?;
+fn the_root_nodes_of_an_area(rt: HostRuntime) {
+    let few = (16_777_216, 512, 4000);
+    let many = (137_438_969_856, 512, 1_048_576);
     let (first, second) = (Which::First, Which::Second);
     // The volume, the area, whether the bitmap is meant; size, first pointer, how many, levels.
     let cases = [
@@ -117,31 +157,46 @@ fn the_root_nodes_of_an_area(rt: HostRuntime) -> Result<(), Fail> {
             pointers: pointers(from, count),
             levels,
         };
-        assert_eq!(rt; g.system_root(which, bitmap), want, "{name}");
+        assert_eq!(rt; root(*g, which, bitmap), Ok(want), "{name}");
     }
-    Ok(())
 }
 
-/// A word of a pointer block, of which the run finds out that it is one.
-fn word(rt: &impl Abort, g: &Geometry, which: Which, bitmap: bool, block: u32, word: u32) -> u32
-    requires { IsGeometry g.now }
-{
-    let first = u64::from(g.base(which, bitmap)) + u64::from(g.tree(bitmap).leaves);
-    let pointers = if bitmap {
-        g.bitmap_pointers
-    } else {
-        g.inode_pointers
+/// A word of a pointer block of a half, where there is such a word.
+fn word(
+    volume: Volume,
+    which: Which,
+    bitmap: bool,
+    block: u32,
+    word: u32,
+) -> Result<Option<u32>, GeomFault> {
+    let g = numbers(volume)?;
+    let half = match which {
+        Which::First => 0,
+        Which::Second => u64::from(g.half),
     };
-    assert!(rt; first <= u64::from(block));
-    assert!(rt; u64::from(block) < first + u64::from(pointers));
-    assert!(rt; word < g.blocksize / 4);
-    g.system_word(which, bitmap, block, word)
+    let inodes = half + u64::from(g.bitmap_leaves) + u64::from(g.bitmap_pointers);
+    let (first, behind) = if bitmap {
+        (half + u64::from(g.bitmap_leaves), inodes)
+    } else {
+        let first = inodes + u64::from(g.inode_leaves);
+        (first, first + u64::from(g.inode_pointers))
+    };
+    if u64::from(block) < first {
+        return Ok(None);
+    }
+    if behind <= u64::from(block) {
+        return Ok(None);
+    }
+    if g.blocksize / 4 <= word {
+        return Ok(None);
+    }
+    Ok(Some(g.system_word(which, bitmap, block, word)))
 }
 
 #[test]
-fn the_pointers_of_a_half(rt: HostRuntime) -> Result<(), Fail> {
-    let few = Geometry::new(16_777_216, 512, 4000)?;
-    let many = Geometry::new(137_438_969_856, 512, 1_048_576)?;
+fn the_pointers_of_a_half(rt: HostRuntime) {
+    let few = (16_777_216, 512, 4000);
+    let many = (137_438_969_856, 512, 1_048_576);
     let (first, second) = (Which::First, Which::Second);
     // The volume, the area, whether the bitmap is meant, block and word.
     let cases = [
@@ -161,7 +216,7 @@ fn the_pointers_of_a_half(rt: HostRuntime) -> Result<(), Fail> {
         ("other", &many, second, false, 660_519, 127, 660_503),
     ];
     for (name, g, which, bitmap, block, at, want) in cases {
-        assert_eq!(rt; word(&rt, g, which, bitmap, block, at), want, "{name}");
+        let got = word(*g, which, bitmap, block, at);
+        assert_eq!(rt; got, Ok(Some(want)), "{name}");
     }
-    Ok(())
 }

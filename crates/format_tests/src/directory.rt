@@ -1,7 +1,9 @@
+//! The records of a block of a directory, as a caller goes over them.
 ghost use Rattle.std.specs.Prelude.{◌≡◌, ◌%◌, length, count_by, find, not, option_map};
 ghost use Rattle.qx_records.specs.Slots.{is_in_use, records_in};
 
-use super::*;
+use qx_fields::Order;
+use qx_records::{Record, Records, Slot, slot_at};
 
 /// How many records of a block are in use: what a caller's loop can say of the items.
 fn used_records(block: &[u8], order: Order) -> usize
@@ -31,7 +33,7 @@ fn first_unused(block: &[u8], order: Order) -> Option<usize>
     None
 }
 
-/// Bytes by the format's table of a directory record, packed by a script that has no part of this crate.
+/// Bytes by the format's table of a directory record, packed by a script that has no part of qx_records.
 #[test]
 fn a_record_says_what_its_32_bytes_are(rt: HostRuntime) {
     let little = Order::Little;

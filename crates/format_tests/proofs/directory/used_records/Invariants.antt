@@ -1,6 +1,6 @@
 use Rattle.std.proofs.Common.{◌≡◌, ◌/◌, length, count_by, ◌+◌, ◌≤◌}
 use Rattle.qx_records.specs.Slots.{is_in_use, records_in}
-use Rattle.qx_records.proofs.directory.tests.used_records.Given as goal
+use Rattle.format_tests.proofs.directory.used_records.Given as goal
 
 abbrev pub invariant-loop-record : goal.invariant-loop-record
 invariant-loop-record l =
