@@ -15,6 +15,3 @@ pub use blocks::{Blocks, Stop};
 pub use copy::fresh_copy;
 pub use memory::MemBlocks;
 pub use untold::Untold;
-
-#[cfg(test)]
-mod tests;

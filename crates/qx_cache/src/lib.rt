@@ -11,6 +11,3 @@ mod cache;
 mod host;
 
 pub use cache::Cache;
-
-#[cfg(test)]
-mod tests;

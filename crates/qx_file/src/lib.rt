@@ -17,6 +17,3 @@ pub use laws::{
     what_is_put_is_the_nodes, what_is_put_leaves_the_pointers,
 };
 pub use plans::{TooBig, plan_size, plan_write};
-
-#[cfg(test)]
-mod tests;

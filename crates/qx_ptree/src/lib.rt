@@ -29,6 +29,3 @@ pub use laws::{
 pub use leaf_path::leaf;
 pub use prepared::{Prepared, abandon, apart, commit};
 pub use ready_path::ready_leaf;
-
-#[cfg(test)]
-mod tests;
