@@ -4,6 +4,5 @@ pub mod PartBytes
 pub mod ReadBytes
 pub mod PlannedChanges
 pub mod PutContent
-pub mod EmptyFiles
 pub mod SameBlocks
 pub mod CommittedFiles

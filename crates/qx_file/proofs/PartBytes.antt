@@ -5,7 +5,6 @@ use Rattle.std.proofs.lemmas.List.{length-take-le, take_min, take-replicate, dro
 use Rattle.std.proofs.Math.Nat.{le-div_iff_mul-le}
 use Rattle.qx_bytes.specs.Ranges.{put_at}
 use Rattle.qx_bytes.proofs.Puts.{length_put, part_put}
-pub use Rattle.qx_ptree.proofs.PointerCounts.{size_positive as size_some}
 use Rattle.qx_file.specs.Puts.{HasByte, with_part}
 
 -- how far a leaf's bytes of a range reach in the range

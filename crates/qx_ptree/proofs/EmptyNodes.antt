@@ -8,7 +8,7 @@ use Rattle.qx_geom.specs.Layout.{levels_for}
 use Rattle.qx_geom.specs.Pointer.{absent, ceil_div}
 use Rattle.qx_geom.proofs.LeastLevels.{levels_for-le}
 use Rattle.qx_blocks.specs.BlockState.{BlockState}
-use Rattle.qx_ptree.specs.Trees.{IsRegular}
+use Rattle.qx_ptree.specs.Trees.{IsRegular, IsWorking}
 
 -- it has no pointer
 abbrev pub empty_node : Root
@@ -30,3 +30,7 @@ empty-regular order m some = record {
   plain = ap (λ l. not (0 == l) || false) (no_levels m.holdings.size some);
   apart = λ u v c d e. absurd (omega (arith, c.1));
 }
+
+-- it has no block
+pub empty-works : (order : Order) (m : BlockState) → IsWorking order m empty_node
+empty-works order m v c = absurd (omega (arith, c.1))

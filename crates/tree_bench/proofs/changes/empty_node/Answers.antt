@@ -1,7 +1,6 @@
 use Rattle.std.proofs.Common.{arith, rules}
 use Rattle.qx_ptree.proofs.PointerCounts.{size_positive}
-use Rattle.qx_ptree.proofs.EmptyNodes.{empty-regular}
-use Rattle.qx_file.proofs.EmptyFiles.{empty_works}
+use Rattle.qx_ptree.proofs.EmptyNodes.{empty-regular, empty-works}
 use Rattle.tree_bench.proofs.changes.empty_node.Goals as goal
 
 pub returns : goal.returns
@@ -9,6 +8,6 @@ returns g c =
     let m = g.B.Blocks.state c.args.blocks.now in
     record {
       levels = search (rules, arith);
-      works = λ _. empty_works c.args.order m;
+      works = λ _. empty-works c.args.order m;
       regular = λ _. empty-regular c.args.order m (size_positive m.holdings.size c.size-size.ensures.consistent.size);
     }
