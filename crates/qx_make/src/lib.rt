@@ -11,8 +11,6 @@ mod halves;
 mod laws;
 mod making;
 mod options;
-#[cfg(test)]
-mod tests;
 
 pub use laws::{
     a_new_volume_has_the_empty_tree, a_new_volume_is_sound, the_blocks_by_the_tables,

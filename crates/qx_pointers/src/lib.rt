@@ -11,8 +11,6 @@ mod node;
 mod pointers;
 mod reading;
 mod source;
-#[cfg(test)]
-mod tests;
 
 pub use halt::Halt;
 pub use node::{LeafPlace, Part, Visitor, walk_node};

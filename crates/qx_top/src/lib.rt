@@ -17,6 +17,3 @@ mod top;
 
 pub use status::Status;
 pub use top::{Ended, USAGE, run, say};
-
-#[cfg(test)]
-mod tests;

@@ -2,10 +2,10 @@
 
 use super::small::small_image;
 use super::{AREA_1, AREA_2, SMALL, SUPERS, USAGE_LINE, Volume, changed, ran, ran_in_room};
-use crate::sizes::size_of_word;
+use crate::maker::made_over;
 use qx_fields::Order;
-use qx_make::{MakeOptions, make};
-use qx_outside::{Dev, Event, MemHost};
+use qx_make::MakeOptions;
+use qx_outside::Event;
 use std::alloc::Global;
 use std::test::Fail;
 
@@ -26,8 +26,8 @@ const OLDER: Volume = Volume {
 
 /// What is said of the superblocks of a device's bytes.
 fn supers_of(alloc: Global, bytes: &[u8]) -> Result<Vec<u8>, Fail> {
-    let (_, host) = ran(alloc, &SUPERS, bytes.to_vec(alloc)?, &[])?;
-    Ok(host.output()?)
+    let left = ran(alloc, &SUPERS, bytes.to_vec(alloc)?, &[])?;
+    Ok(left.output)
 }
 
 /// These bytes of a device.
@@ -39,11 +39,9 @@ fn part(bytes: &[u8], from: usize, to: usize) -> &[u8] {
 fn a_volume_on_an_empty_device_is_the_one_of_the_tables(rt: HostRuntime) -> Result<(), Fail> {
     let alloc = rt.alloc();
     for size in ["65536", "64K", "0064K"] {
-        let (ended, host) = ran(alloc, &["mkqnx6fs", "x", size], Vec::new(alloc), &[])?;
-        assert_eq!(rt; host.output()?.as_slice(), MADE.as_bytes(), "{size}");
-        assert_eq!(rt; ended, 0, "{size}");
-        let wanted = small_image(alloc)?;
-        assert!(rt; host.bytes() == wanted.as_slice(), "{size}");
+        let left = ran(alloc, &["mkqnx6fs", "x", size], Vec::new(alloc), &[])?;
+        assert!(rt; left.says(0, MADE), "{size}");
+        assert!(rt; left.bytes == small_image(alloc)?, "{size}");
     }
     Ok(())
 }
@@ -60,19 +58,15 @@ fn a_volume_that_was_made_is_read_back(rt: HostRuntime) -> Result<(), Fail> {
         ("32K", least, 32768, of_32k),
     ];
     for (size, text, len, line) in cases {
-        let (ended, host) = ran(alloc, &["mkqnx6fs", "x", size], Vec::new(alloc), &[])?;
-        assert_eq!(rt; host.output()?.as_slice(), text.as_bytes(), "{size}");
-        assert_eq!(rt; ended, 0, "{size}");
-        assert_eq!(rt; host.bytes().len(), len, "{size}");
-        assert_eq!(rt;
-            supers_of(alloc, host.bytes())?.as_slice(),
-            line.as_bytes(),
-            "{size}"
-        );
+        let left = ran(alloc, &["mkqnx6fs", "x", size], Vec::new(alloc), &[])?;
+        assert!(rt; left.says(0, text), "{size}");
+        assert_eq!(rt; left.bytes.len(), len, "{size}");
+        let said = supers_of(alloc, &left.bytes)?;
+        assert!(rt; said.as_slice() == line.as_bytes(), "{size}");
     }
-    let (_, host) = ran(alloc, &["mkqnx6fs", "x", "65537"], Vec::new(alloc), &[])?;
+    let left = ran(alloc, &["mkqnx6fs", "x", "65537"], Vec::new(alloc), &[])?;
     let magic = [0x22, 0x11, 0x19, 0x68];
-    assert_eq!(rt; part(host.bytes(), 61440, 61444), magic.as_slice());
+    assert_eq!(rt; part(&left.bytes, 61440, 61444), magic.as_slice());
     Ok(())
 }
 
@@ -85,28 +79,18 @@ fn other_blocks(alloc: Global) -> Result<Vec<u8>, Fail> {
         order: Order::Little,
         moment: 5,
     };
-    let mut host = MemHost::new(
-        alloc,
-        Vec::new(alloc),
-        Vec::new(alloc),
-        Vec::new(alloc),
-        Vec::new(alloc),
-        1000,
-    )?;
-    if make(&mut host, &options).is_err() {
-        return Err(Fail::new("no volume of other blocks was made"));
-    }
-    Ok(host.bytes().to_vec(alloc)?)
+    let (_, bytes) = made_over(alloc, &[], &options)?;
+    Ok(bytes)
 }
 
 /// Whether the small volume is made over a device and found there, its areas, halves and root directory byte for byte.
 fn is_made_over(alloc: Global, device: Vec<u8>) -> Result<bool, Fail> {
-    let (ended, host) = ran(alloc, &MAKE, device, &[])?;
-    let bytes = host.bytes();
+    let left = ran(alloc, &MAKE, device, &[])?;
+    let bytes = left.bytes.as_slice();
     let wanted = small_image(alloc)?;
     let first = part(bytes, 0x2000, 0x4600) == part(&wanted, 0x2000, 0x4600);
     let second = part(bytes, 0xF000, 0x10000) == part(&wanted, 0xF000, 0x10000);
-    let said = ended == 0 && host.output()?.as_slice() == MADE.as_bytes();
+    let said = left.says(0, MADE);
     let found = supers_of(alloc, bytes)?.as_slice() == AREA_2.as_bytes();
     Ok(first && second && said && found && bytes.len() == 65536)
 }
@@ -138,26 +122,26 @@ fn expect(holds: bool, why: &'static str) -> Result<(), Fail> {
 
 /// The volume that a device has: the old one, none, or the new one.
 #[derive(Clone, Copy, PartialEq, Eq)]
-enum Left {
+enum Held {
     Old,
     Nothing,
     New,
 }
 
 /// What a device's bytes hold, where they held a volume with this line before.
-fn left_of(alloc: Global, bytes: &[u8], old: &str) -> Result<Left, Fail> {
+fn held_by(alloc: Global, bytes: &[u8], old: &str) -> Result<Held, Fail> {
     let line = supers_of(alloc, bytes)?;
     let line = line.as_slice();
     if line == NO_VOLUME.as_bytes() {
-        return Ok(Left::Nothing);
+        return Ok(Held::Nothing);
     }
     if line == old.as_bytes() {
-        return Ok(Left::Old);
+        return Ok(Held::Old);
     }
     // The first of the new superblocks counts while the second doesn't stand.
     let new = line == AREA_1.as_bytes() || line == AREA_2.as_bytes();
     expect(new, "neither the old volume, nor none, nor the new one")?;
-    Ok(Left::New)
+    Ok(Held::New)
 }
 
 /// Devices by what they hold, with the line about it.
@@ -182,26 +166,20 @@ fn devices(alloc: Global) -> Result<[(Vec<u8>, &'static str); 4], Fail> {
 
 /// Runs the maker with its call of this number failing, and looks at what it says and leaves. Answers whether no call failed.
 fn run_failing_at(alloc: Global, device: &[u8], old: &str, number: u64) -> Result<bool, Fail> {
-    let (ended, host) = ran(alloc, &MAKE, device.to_vec(alloc)?, &[number])?;
-    let output = host.output()?;
-    if ended == 0 {
+    let left = ran(alloc, &MAKE, device.to_vec(alloc)?, &[number])?;
+    let output = left.output.as_slice();
+    if left.status == 0 {
         return Ok(true);
     }
     if number == 0 {
-        let untouched = host.trail().is_empty() && host.reads() == 0;
-        expect(ended == 4 && untouched, "the clock comes first")?;
-    } else if ended == 4 {
-        expect(
-            MADE.as_bytes().starts_with(output.as_slice()),
-            "a part of the line",
-        )?;
+        let untouched = left.events == 0 && left.reads == 0;
+        expect(left.status == 4 && untouched, "the clock comes first")?;
+    } else if left.status == 4 {
+        expect(MADE.as_bytes().starts_with(output), "a part of the line")?;
     } else {
-        expect(
-            ended == 3 && output.as_slice() == FAULT.as_bytes(),
-            "a device fault",
-        )?;
+        expect(left.says(3, FAULT), "a device fault")?;
     }
-    left_of(alloc, host.bytes(), old)?;
+    held_by(alloc, &left.bytes, old)?;
     Ok(false)
 }
 
@@ -224,10 +202,10 @@ fn each_call_that_fails_leaves_the_old_volume_or_none_or_the_new_one(
 }
 
 /// What a cut after so many events leaves, and whether the length was set by the last of them.
-fn cut_after(alloc: Global, device: &[u8], old: &str, events: usize) -> Result<(Left, bool), Fail> {
+fn cut_after(alloc: Global, device: &[u8], old: &str, events: usize) -> Result<(Held, bool), Fail> {
     let (_, host) = ran_in_room(alloc, &MAKE, device.to_vec(alloc)?, &[], events)?;
     let sized = matches!(host.trail(), [.., Event::Sized { len: _, ok: true }]);
-    Ok((left_of(alloc, host.bytes(), old)?, sized))
+    Ok((held_by(alloc, host.bytes(), old)?, sized))
 }
 
 #[test]
@@ -236,16 +214,16 @@ fn a_cut_after_each_event_leaves_the_old_volume_then_none_then_the_new_one(
 ) -> Result<(), Fail> {
     let alloc = rt.alloc();
     for (device, old) in devices(alloc)? {
-        let mut before = Left::Old;
+        let mut before = Held::Old;
         for events in 0..40usize {
-            let (left, sized) = cut_after(alloc, &device, old, events)?;
-            assert!(rt; !sized || left == Left::Nothing, "{old} {events}");
-            let went_back = left == Left::Old && before != Left::Old
-                || before == Left::New && left != Left::New;
+            let (held, sized) = cut_after(alloc, &device, old, events)?;
+            assert!(rt; !sized || held == Held::Nothing, "{old} {events}");
+            let went_back = held == Held::Old && before != Held::Old
+                || before == Held::New && held != Held::New;
             assert!(rt; !went_back, "{old} {events}");
-            before = left;
+            before = held;
         }
-        assert!(rt; before == Left::New, "{old}");
+        assert!(rt; before == Held::New, "{old}");
     }
     Ok(())
 }
@@ -286,8 +264,8 @@ fn where_the_length_was_just_set_there_is_no_volume(rt: HostRuntime) -> Result<(
     shortened.truncate(61440);
     let mut seen = false;
     for events in 0..12usize {
-        let (left, sized) = cut_after(alloc, &shortened, AREA_1, events)?;
-        assert!(rt; !sized || left == Left::Nothing, "{events}");
+        let (held, sized) = cut_after(alloc, &shortened, AREA_1, events)?;
+        assert!(rt; !sized || held == Held::Nothing, "{events}");
         seen |= sized;
     }
     assert!(rt; seen);
@@ -321,11 +299,28 @@ fn refused_numbers_have_their_line_and_no_other_call(rt: HostRuntime) -> Result<
     ];
     for (size, line) in cases {
         let words = ["mkqnx6fs", "x", size];
-        let (ended, host) = ran(alloc, &words, SMALL.device(alloc)?, &[])?;
-        assert_eq!(rt; host.output()?.as_slice(), line.as_bytes(), "{size}");
-        assert_eq!(rt; (ended, host.events(), host.reads()), (1, 1, 0), "{size}");
+        let left = ran(alloc, &words, SMALL.device(alloc)?, &[])?;
+        assert!(rt; left.says(1, line), "{size}");
+        assert_eq!(rt; (left.events, left.reads), (1, 0), "{size}");
     }
     Ok(())
+}
+
+/// Whether the maker takes the word for this size: a volume's length is asked of the device, which fails to set it; other sizes and words have their lines.
+/// Of a size that is no volume's, a run tells no more than on which side it lies; `sizes.rt` has its exact value.
+fn says_size(alloc: Global, word: &str, size: Option<u64>) -> Result<bool, Fail> {
+    let words = ["mkqnx6fs", "x", word];
+    // The call that fails comes behind the clock, the attach, the length and a sync, and sets the length.
+    let (_, host) = ran_in_room(alloc, &words, Vec::new(alloc), &[4], 100)?;
+    let output = host.output()?;
+    let line = output.as_slice();
+    Ok(match (size, host.trail()) {
+        (None, [Event::Gave(_)]) => line == USAGE_LINE.as_bytes(),
+        (Some(size), [Event::Gave(_)]) if size < 1 << 15 => line == b"bad TooShort\n".as_slice(),
+        (Some(size), [Event::Gave(_)]) => size > 1 << 37 && line == b"bad TooLarge\n".as_slice(),
+        (Some(size), [.., Event::Sized { len, ok: false }, Event::Gave(_)]) => *len == size,
+        _ => false,
+    })
 }
 
 #[test]
@@ -344,7 +339,7 @@ fn words_say_sizes(rt: HostRuntime) -> Result<(), Fail> {
         ("1\u{0660}", None),
     ];
     for (word, size) in cases {
-        assert_eq!(rt; size_of_word(word), size, "{word}");
+        assert!(rt; says_size(rt.alloc(), word, size)?, "{word}");
     }
     Ok(())
 }

@@ -1,9 +1,9 @@
 //! Small volumes with small changes, and what the checker says of each.
 
 use super::{big, little, ran};
+use crate::maker::made_over;
 use qx_fields::Order;
-use qx_make::{MakeOptions, make};
-use qx_outside::MemHost;
+use qx_make::MakeOptions;
 use std::alloc::Global;
 use std::test::Fail;
 
@@ -63,19 +63,8 @@ fn made(alloc: Global, order: Order, inodes: u32) -> Result<Vec<u8>, Fail> {
         order,
         moment: 1000,
     };
-    let none = Vec::new(alloc);
-    let mut host = MemHost::new(
-        alloc,
-        none,
-        Vec::new(alloc),
-        Vec::new(alloc),
-        Vec::new(alloc),
-        100,
-    )?;
-    if make(&mut host, &options).is_err() {
-        return Err(Fail::new("a small volume is made"));
-    }
-    Ok(host.bytes().to_vec(alloc)?)
+    let (_, bytes) = made_over(alloc, &[], &options)?;
+    Ok(bytes)
 }
 
 /// The volume of this name.
@@ -117,9 +106,9 @@ fn holds(alloc: Global, order: Order, row: &str) -> Result<bool, Fail> {
     let line = line.trim();
     let mut device = volume(alloc, order, name.trim())?;
     change_all(&mut device, said)?;
-    let (status, host) = ran(alloc, &["chkqnx6fs", "x"], device, &[])?;
-    let output = host.output()?;
-    Ok(status == status_of(line) && output.strip_suffix(b"\n") == Some(line.as_bytes()))
+    let left = ran(alloc, &["chkqnx6fs", "x"], device, &[])?;
+    let output = left.output.strip_suffix(b"\n");
+    Ok(left.status == status_of(line) && output == Some(line.as_bytes()))
 }
 
 /// The first row that the checker takes otherwise, if there is one.

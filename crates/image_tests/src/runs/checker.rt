@@ -2,9 +2,10 @@
 
 use super::small::small_image;
 use super::{changed, ran, ran_in_room};
+use crate::maker::made_over;
 use qx_fields::Order;
-use qx_make::{MakeOptions, make};
-use qx_outside::{Dev, Event, MemHost};
+use qx_make::MakeOptions;
+use qx_outside::Dev;
 use std::alloc::Global;
 use std::test::Fail;
 
@@ -36,13 +37,11 @@ fn a_volume_that_was_made_is_clean(rt: HostRuntime) -> Result<(), Fail> {
         ("16M", of_16m),
     ];
     for (size, line) in cases {
-        let (made, host) = ran(alloc, &["mkqnx6fs", "x", size], Vec::new(alloc), &[])?;
-        assert_eq!(rt; made, 0, "{size}");
-        let bytes = host.bytes().to_vec(alloc)?;
-        let (ended, host) = ran(alloc, &CHECK, bytes, &[])?;
-        assert_eq!(rt; host.output()?.as_slice(), line.as_bytes(), "{size}");
-        assert_eq!(rt; ended, 0, "{size}");
-        assert!(rt; matches!(host.trail(), [Event::Gave(_)]), "{size}");
+        let made = ran(alloc, &["mkqnx6fs", "x", size], Vec::new(alloc), &[])?;
+        assert_eq!(rt; made.status, 0, "{size}");
+        let left = ran(alloc, &CHECK, made.bytes, &[])?;
+        assert!(rt; left.says(0, line), "{size}");
+        assert!(rt; left.just_spoke, "{size}");
     }
     Ok(())
 }
@@ -85,27 +84,23 @@ fn each_change_has_its_line(rt: HostRuntime) -> Result<(), Fail> {
     ];
     for (name, changes, line, status) in cases {
         let device = with_bytes(small_image(alloc)?, changes);
-        let (ended, host) = ran(alloc, &CHECK, device, &[])?;
-        assert_eq!(rt; host.output()?.as_slice(), line.as_bytes(), "{name}");
-        assert_eq!(rt; ended, status, "{name}");
-        assert!(rt; matches!(host.trail(), [Event::Gave(_)]), "{name}");
+        let left = ran(alloc, &CHECK, device, &[])?;
+        assert!(rt; left.says(status, line), "{name}");
+        assert!(rt; left.just_spoke, "{name}");
     }
-    let (ended, host) = ran(alloc, &CHECK, with_bytes(small_image(alloc)?, &twice), &[])?;
-    let line = "damaged 13 inode 1 block 10\n";
-    assert_eq!(rt; host.output()?.as_slice(), line.as_bytes());
-    assert_eq!(rt; ended, 2);
+    let left = ran(alloc, &CHECK, with_bytes(small_image(alloc)?, &twice), &[])?;
+    assert!(rt; left.says(2, "damaged 13 inode 1 block 10\n"));
     Ok(())
 }
 
 #[test]
 fn a_pointer_block_of_the_other_half_counts(rt: HostRuntime) -> Result<(), Fail> {
     let alloc = rt.alloc();
-    let (_, host) = ran(alloc, &["mkqnx6fs", "x", "16M"], Vec::new(alloc), &[])?;
+    let made = ran(alloc, &["mkqnx6fs", "x", "16M"], Vec::new(alloc), &[])?;
     // Block 1032 is the first inode pointer block of the first half, and the second half is active.
-    let device = changed(host.bytes().to_vec(alloc)?, &[0x3000 + 1032 * 512]);
-    let (ended, host) = ran(alloc, &CHECK, device, &[])?;
-    assert_eq!(rt; host.output()?.as_slice(), b"foreign 2 at 0\n".as_slice());
-    assert_eq!(rt; ended, 0);
+    let device = changed(made.bytes, &[0x3000 + 1032 * 512]);
+    let left = ran(alloc, &CHECK, device, &[])?;
+    assert!(rt; left.says(0, "foreign 2 at 0\n"));
     Ok(())
 }
 
@@ -119,23 +114,11 @@ fn big_order_and_blocks_of_4096_bytes_are_read(rt: HostRuntime) -> Result<(), Fa
         order: Order::Big,
         moment: 1000,
     };
-    let none = Vec::new(alloc);
-    let mut host = MemHost::new(
-        alloc,
-        none,
-        Vec::new(alloc),
-        Vec::new(alloc),
-        Vec::new(alloc),
-        100,
-    )?;
-    let Ok(made) = make(&mut host, &options) else {
-        return Err(Fail::new("a volume of 1 MiB is made"));
-    };
+    let (made, bytes) = made_over(alloc, &[], &options)?;
     assert_eq!(rt;
         (made.blocks, made.user, made.free, made.inodes),
         (252, 234, 233, 256)
     );
-    let bytes = host.bytes();
     let magic = [0x68, 0x19, 0x11, 0x22];
     assert_eq!(rt; bytes.get(0x2000..0x2004), Some(magic.as_slice()));
     assert_eq!(rt; bytes.get(1_044_480..1_044_484), Some(magic.as_slice()));
@@ -150,9 +133,8 @@ fn big_order_and_blocks_of_4096_bytes_are_read(rt: HostRuntime) -> Result<(), Fa
         ),
     ];
     for (words, line) in cases {
-        let (ended, host) = ran(alloc, words, bytes.to_vec(alloc)?, &[])?;
-        assert_eq!(rt; host.output()?.as_slice(), line.as_bytes(), "{line}");
-        assert_eq!(rt; ended, 0, "{line}");
+        let left = ran(alloc, words, bytes.as_slice().to_vec(alloc)?, &[])?;
+        assert!(rt; left.says(0, line), "{line}");
     }
     Ok(())
 }
@@ -162,16 +144,14 @@ fn each_device_call_that_fails_is_a_device_fault(rt: HostRuntime) -> Result<(), 
     let alloc = rt.alloc();
     let mut last = 0;
     for number in 0..100u64 {
-        let (ended, host) = ran(alloc, &CHECK, small_image(alloc)?, &[number])?;
-        let output = host.output()?;
-        assert!(rt; host.bytes() == small_image(alloc)?.as_slice(), "{number}");
-        if ended == 4 {
+        let left = ran(alloc, &CHECK, small_image(alloc)?, &[number])?;
+        assert!(rt; left.bytes == small_image(alloc)?, "{number}");
+        if left.status == 4 {
             // The line was the last call, and half of it was given.
-            assert_eq!(rt; output.as_slice(), b"clean area 2 serial 2 free".as_slice());
+            assert!(rt; left.says(4, "clean area 2 serial 2 free"));
             break;
         }
-        assert_eq!(rt; ended, 3, "{number}");
-        assert_eq!(rt; output.as_slice(), b"device fault\n".as_slice(), "{number}");
+        assert!(rt; left.says(3, "device fault\n"), "{number}");
         last = number;
     }
     // The attach, the length, both areas, and the blocks that are read.
@@ -184,9 +164,8 @@ fn each_device_call_that_fails_is_a_device_fault(rt: HostRuntime) -> Result<(), 
 #[test]
 fn a_word_that_begins_with_a_line_is_an_image(rt: HostRuntime) -> Result<(), Fail> {
     let alloc = rt.alloc();
-    let (ended, host) = ran(alloc, &["chkqnx6fs", "-s"], small_image(alloc)?, &[])?;
-    assert_eq!(rt; host.output()?.as_slice(), CLEAN.as_bytes());
-    assert_eq!(rt; ended, 0);
+    let left = ran(alloc, &["chkqnx6fs", "-s"], small_image(alloc)?, &[])?;
+    assert!(rt; left.says(0, CLEAN));
     Ok(())
 }
 
@@ -225,9 +204,8 @@ fn noise_behind_a_superblock_gets_a_verdict(rt: HostRuntime) -> Result<(), Fail>
     ];
     for (seed, from, to, (line, status)) in cases {
         let device = with_noise(small_image(alloc)?, seed, from, to);
-        let (ended, host) = ran(alloc, &CHECK, device, &[])?;
-        assert_eq!(rt; host.output()?.as_slice(), line.as_bytes(), "{seed}");
-        assert_eq!(rt; ended, status, "{seed}");
+        let left = ran(alloc, &CHECK, device, &[])?;
+        assert!(rt; left.says(status, line), "{seed}");
     }
     Ok(())
 }

@@ -1,11 +1,11 @@
 //! Nodes on a device in memory. Wanted numbers are by hand: with blocks of 512 bytes a pointer block has 128 pointers.
 
-use crate::{Halt, LeafPlace, Part, Shape, Visitor, read_block, walk_node};
 use qx_blockset::BlockSet;
 use qx_fields::Order::{self, Big, Little};
 use qx_fields::put32;
 use qx_geom::{ABSENT, Root};
 use qx_outside::{Dev, MemHost};
+use qx_pointers::{Halt, LeafPlace, Part, Shape, Visitor, read_block, walk_node};
 use std::alloc::Global;
 use std::test::Fail;
 

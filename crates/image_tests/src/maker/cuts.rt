@@ -1,9 +1,9 @@
 //! What the maker leaves where a call fails or the power is cut. Counts of calls and events are by hand, from the order in which the maker works.
 
-use super::{asked, device_of, host_over, made_over, part, put};
-use crate::{MakeFault, make};
+use super::{asked, device_of, host_over, made_on, made_over, part, put};
 use qx_fields::Order::{Big, Little};
 use qx_geom::Which;
+use qx_make::MakeFault;
 use qx_outside::{Dev, Event, Failed};
 use qx_super::{Pick, areas};
 use std::alloc::Global;
@@ -127,13 +127,13 @@ fn a_failed_call_is_a_device_fault_and_leaves_no_volume_or_a_whole_one(
         };
         for call in 0..calls {
             let mut host = host_over(alloc, &old, &[call])?;
-            let answer = make(&mut host, &options);
+            let answer = made_on(&mut host, &options);
             assert_eq!(rt; answer, Err(MakeFault::Device), "{name}: {call}");
             let left = course.left_on(host.bytes())?;
             assert_eq!(rt; left, wanted(call, to_old, to_nothing), "{name}: {call}");
         }
         let mut host = host_over(alloc, &old, &[calls])?;
-        assert!(rt; make(&mut host, &options).is_ok(), "{name}");
+        assert!(rt; made_on(&mut host, &options).is_ok(), "{name}");
     }
     Ok(())
 }
@@ -150,7 +150,7 @@ fn a_cut_after_any_event_leaves_no_volume_or_a_whole_one(rt: HostRuntime) -> Res
         .zip(counts)
     {
         let mut host = host_over(alloc, &old, &[])?;
-        make(&mut host, &options)?;
+        made_on(&mut host, &options)?;
         assert_eq!(rt; host.events(), events, "{name}");
         let course = Course {
             alloc,

@@ -1,17 +1,19 @@
 //! Whole runs over a host in memory.
+ghost use Rattle.std.specs.Prelude.{◌≡◌, [], IfSome, IsTrue};
 
 mod big;
 mod cases;
 mod checker;
 mod little;
+mod sizes;
 mod small;
 mod volumes;
 
-use crate::run;
 use qx_fields::{Order, put16, put32, put64};
 use qx_geom::{ABSENT, Which};
-use qx_outside::{Dev, Event, MemHost};
+use qx_outside::{Dev, Event, Host, MemHost};
 use qx_super::{MAGIC, checksum};
+use qx_top::run;
 use std::alloc::Global;
 use std::test::Fail;
 
@@ -97,6 +99,45 @@ impl Volume {
     }
 }
 
+/// The words as texts.
+fn texts(alloc: Global, words: &[&str]) -> Result<Vec<String>, Fail> {
+    let mut texts = Vec::new(alloc);
+    for word in words {
+        texts.push(String::from_str(alloc, word)?)?;
+    }
+    Ok(texts)
+}
+
+/// Runs the words over any host on which nothing was done: the status, and the host afterwards.
+fn ran_over<H: Host>(alloc: Global, words: &[String], host: H) -> (u8, H)
+    requires trail { IsTrue (H.tells host) → (H.history host).deeds ≡ [] }
+    requires attached { IfSome (H.attached host) (λ paths. paths ≡ []) }
+{
+    let ended = run(alloc, words, host);
+    (ended.status, ended.host)
+}
+
+/// What a run left behind.
+#[derive(Drop)]
+struct Left {
+    status: u8,
+    /// All that it gave to the console.
+    output: Vec<u8>,
+    /// The device's bytes.
+    bytes: Vec<u8>,
+    events: u64,
+    reads: u64,
+    /// Whether its one event gave a text.
+    just_spoke: bool,
+}
+
+impl Left {
+    /// Whether the run ended with this status, and gave this text.
+    fn says(&self, status: u8, text: &str) -> bool {
+        self.status == status && self.output.as_slice() == text.as_bytes()
+    }
+}
+
 /// Runs the words over a device at the moment 1000, where these calls fail and there is room for so many events: the status, and the host afterwards.
 fn ran_in_room(
     alloc: Global,
@@ -105,26 +146,25 @@ fn ran_in_room(
     failing: &[u64],
     room: usize,
 ) -> Result<(u8, MemHost), Fail> {
-    let mut texts = Vec::new(alloc);
-    for word in words {
-        texts.push(String::from_str(alloc, word)?)?;
-    }
+    let words = texts(alloc, words)?;
     let failing = failing.to_vec(alloc)?;
     let mut moments = Vec::new(alloc);
     moments.push(1000)?;
     let host = MemHost::new(alloc, device, Vec::new(alloc), moments, failing, room)?;
-    let ended = run(alloc, &texts, host);
-    Ok((ended.status, ended.host))
+    Ok(ran_over(alloc, &words, host))
 }
 
-/// The same with ample room.
-fn ran(
-    alloc: Global,
-    words: &[&str],
-    device: Vec<u8>,
-    failing: &[u64],
-) -> Result<(u8, MemHost), Fail> {
-    ran_in_room(alloc, words, device, failing, 100)
+/// The same with ample room, and what is left.
+fn ran(alloc: Global, words: &[&str], device: Vec<u8>, failing: &[u64]) -> Result<Left, Fail> {
+    let (status, host) = ran_in_room(alloc, words, device, failing, 100)?;
+    Ok(Left {
+        status,
+        output: host.output()?,
+        bytes: host.bytes().to_vec(alloc)?,
+        events: host.events(),
+        reads: host.reads(),
+        just_spoke: matches!(host.trail(), [Event::Gave(_)]),
+    })
 }
 
 /// The same bytes with some of them turned over.
@@ -172,11 +212,9 @@ fn the_line_is_about_the_later_of_two_valid_areas(rt: HostRuntime) -> Result<(),
     ];
     for (name, volume, places, text, status) in cases {
         let device = changed(volume.device(alloc)?, places);
-        let (ended, host) = ran(alloc, &SUPERS, device, &[])?;
-        assert_eq!(rt; host.output()?.as_slice(), text.as_bytes(), "{name}");
-        assert_eq!(rt; ended, status, "{name}");
-        assert!(rt; matches!(host.trail(), [Event::Gave(_)]), "{name}");
-        assert_eq!(rt; host.reads(), 2, "{name}");
+        let left = ran(alloc, &SUPERS, device, &[])?;
+        assert!(rt; left.says(status, text), "{name}");
+        assert_eq!(rt; (left.just_spoke, left.reads), (true, 2), "{name}");
     }
     Ok(())
 }
@@ -191,24 +229,14 @@ fn a_device_of_any_length_is_no_reason_to_fail(rt: HostRuntime) -> Result<(), Fa
     for len in lengths {
         let mut device = SMALL.device(alloc)?;
         device.truncate(len);
-        let (ended, host) = ran(alloc, &SUPERS, device, &[])?;
-        assert_eq!(rt;
-            host.output()?.as_slice(),
-            b"no volume\n".as_slice(),
-            "{len}"
-        );
-        assert_eq!(rt; ended, 2, "{len}");
+        let left = ran(alloc, &SUPERS, device, &[])?;
+        assert!(rt; left.says(2, "no volume\n"), "{len}");
     }
     for fill in [0x68u8, 0x22, 0xFF] {
         let mut device = Vec::new(alloc);
         device.resize(65536, fill)?;
-        let (ended, host) = ran(alloc, &SUPERS, device, &[])?;
-        assert_eq!(rt;
-            host.output()?.as_slice(),
-            b"no volume\n".as_slice(),
-            "{fill}"
-        );
-        assert_eq!(rt; ended, 2, "{fill}");
+        let left = ran(alloc, &SUPERS, device, &[])?;
+        assert!(rt; left.says(2, "no volume\n"), "{fill}");
     }
     Ok(())
 }
@@ -230,9 +258,8 @@ fn each_call_that_fails_has_its_line_and_status(rt: HostRuntime) -> Result<(), F
     ];
     for (name, failing, text, status) in cases {
         let device = SMALL.device(alloc)?;
-        let (ended, host) = ran(alloc, &SUPERS, device, failing)?;
-        assert_eq!(rt; host.output()?.as_slice(), text.as_bytes(), "{name}");
-        assert_eq!(rt; ended, status, "{name}");
+        let left = ran(alloc, &SUPERS, device, failing)?;
+        assert!(rt; left.says(status, text), "{name}");
     }
     Ok(())
 }
@@ -251,19 +278,13 @@ fn other_words_get_the_usage_line_and_no_device_call(rt: HostRuntime) -> Result<
         &["frob", "x"],
     ];
     for words in cases {
-        let (ended, host) = ran(alloc, words, SMALL.device(alloc)?, &[])?;
-        assert_eq!(rt;
-            host.output()?.as_slice(),
-            USAGE_LINE.as_bytes(),
-            "{words:?}"
-        );
-        assert_eq!(rt; ended, 1, "{words:?}");
-        assert_eq!(rt; (host.events(), host.reads()), (1, 0), "{words:?}");
+        let left = ran(alloc, words, SMALL.device(alloc)?, &[])?;
+        assert!(rt; left.says(1, USAGE_LINE), "{words:?}");
+        assert_eq!(rt; (left.events, left.reads), (1, 0), "{words:?}");
     }
-    let (ended, host) = ran(alloc, &["frob"], SMALL.device(alloc)?, &[0])?;
-    assert_eq!(rt; host.output()?.len(), 56);
-    assert_eq!(rt; ended, 4);
-    let (ended, _) = ran(alloc, &["chkqnx6fs", "-s", "-s"], SMALL.device(alloc)?, &[])?;
-    assert_eq!(rt; ended, 0, "-s is a fine name of an image");
+    let left = ran(alloc, &["frob"], SMALL.device(alloc)?, &[0])?;
+    assert_eq!(rt; (left.status, left.output.len()), (4, 56));
+    let left = ran(alloc, &["chkqnx6fs", "-s", "-s"], SMALL.device(alloc)?, &[])?;
+    assert_eq!(rt; left.status, 0, "-s is a fine name of an image");
     Ok(())
 }

@@ -2,10 +2,10 @@
 
 mod cuts;
 
-use crate::{Made, MakeFault, MakeOptions, make};
 use qx_fields::Order::{self, Big, Little};
 use qx_geom::GeomFault;
-use qx_outside::MemHost;
+use qx_make::{Made, MakeFault, MakeOptions, make};
+use qx_outside::{Dev, MemHost};
 use qx_super::checksum;
 use std::alloc::Global;
 use std::test::Fail;
@@ -38,10 +38,19 @@ fn device_of(alloc: Global, len: usize, byte: u8) -> Result<Vec<u8>, Fail> {
     Ok(device)
 }
 
+/// Makes a volume on any device.
+fn made_on<D: Dev>(host: &mut D, options: &MakeOptions) -> Result<Made, MakeFault> {
+    make(host, options)
+}
+
 /// What is answered where no call fails, and the device's bytes afterwards.
-fn made_over(alloc: Global, device: &[u8], options: &MakeOptions) -> Result<(Made, Vec<u8>), Fail> {
+pub(crate) fn made_over(
+    alloc: Global,
+    device: &[u8],
+    options: &MakeOptions,
+) -> Result<(Made, Vec<u8>), Fail> {
     let mut host = host_over(alloc, device, &[])?;
-    let made = make(&mut host, options)?;
+    let made = made_on(&mut host, options)?;
     Ok((made, host.bytes().to_vec(alloc)?))
 }
 
@@ -94,7 +103,7 @@ fn the_shortest_volumes_are_made_whole_and_a_byte_less_is_too_short(
         };
         let mut host = host_over(alloc, &bytes, &[])?;
         let short = Err(MakeFault::Geom(GeomFault::TooShort));
-        assert_eq!(rt; make(&mut host, &shorter), short, "{shorter:?}");
+        assert_eq!(rt; made_on(&mut host, &shorter), short, "{shorter:?}");
     }
     Ok(())
 }
