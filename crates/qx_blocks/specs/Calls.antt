@@ -1,14 +1,15 @@
 -- What a call on blocks answers, and what it leaves.
-use Rattle.std.specs.Prelude.{◌≡◌, ℕ, ◌≤◌, IsTrue, Result, IfErr}
+use Rattle.std.specs.Prelude.{◌≡◌, ℕ, ◌≤◌, IsTrue, Result, Err, IfErr}
 use Rattle.qx_outside.specs.Causes.{Rose}
 use Rattle.qx_blocks.specs.declared.blocks.Stop.{Stop}
 use Rattle.qx_blocks.specs.declared.blocks.Stop.TheVariants.{Device}
 use Rattle.qx_blocks.specs.BlockState.{BlockState, with_ready}
 
--- the count of faults never falls, and the device is named only where it rose
+-- the count of faults never falls, the device is named only where it rose, and anything else is answered only where it stands
 pub record HasStopCause {A : Type 0} (before now : ℕ) (result : Result A Stop) : Type 0 where
   pub later : before ≤ now
   pub device : IfErr result (λ stop. stop ≡ Device → Rose before now)
+  pub kept : (result ≡ Err Device → ⊥) → now ≡ before
 
 -- nothing changed, but that bytes may be told no more
 pub record Keeps (old new : BlockState) : Type 0 where

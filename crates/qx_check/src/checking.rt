@@ -17,6 +17,7 @@ pub fn check<D: Dev>(alloc: Global, host: &mut D) -> Result<Verdict, CheckFault>
     ensures reads { JustReads D.tells D.history D.attached D.con_faults host.old host.new }
     ensures later { D.dev_faults host.old ≤ D.dev_faults host.new }
     ensures device { result ≡ Err faults.Device → Rose (D.dev_faults host.old) (D.dev_faults host.new) }
+    ensures kept { (result ≡ Err faults.Device → ⊥) → D.dev_faults host.new ≡ D.dev_faults host.old }
 {
     let Ok(len) = host.len() else {
         return Err(CheckFault::Device);

@@ -188,6 +188,7 @@ pub fn make<D: Dev>(host: &mut D, options: &MakeOptions) -> Result<Made, MakeFau
     ensures others { LeavesConsole D.attached D.con_faults host.old host.new }
     ensures later { D.dev_faults host.old ≤ D.dev_faults host.new }
     ensures device { result ≡ Err faults.Device → Rose (D.dev_faults host.old) (D.dev_faults host.new) }
+    ensures kept { (result ≡ Err faults.Device → ⊥) → D.dev_faults host.new ≡ D.dev_faults host.old }
 {
     let geometry = match Geometry::new(options.size, options.blocksize, options.inodes) {
         Err(fault) => return Err(MakeFault::Geom(fault)),

@@ -1,14 +1,15 @@
 -- Counts of faults, and the failures that they explain.
-use Rattle.std.specs.Prelude.{◌≡◌, IfSome, ℕ, ◌+◌, ◌-◌, ◌≤◌, ◌^◌, min, Option, None, Some, Result, OnErr}
+use Rattle.std.specs.Prelude.{◌≡◌, IfSome, ℕ, ◌+◌, ◌-◌, ◌≤◌, ◌^◌, min, Option, None, Some, Result, OnErr, OnOk}
 
 -- the count rose, or stands at its last value
 abbrev pub Rose : ℕ → ℕ → Type 0
 Rose before now = min (before + 1) (2 ^ 64 - 1) ≤ now
 
--- the count never falls, and an `Err` comes only where it rose
+-- the count never falls, an `Err` comes only where it rose, and an `Ok` only where it stands
 pub record HasCause {T E : Type 0} (before now : ℕ) (result : Result T E) : Type 0 where
   pub later : before ≤ now
   pub failed : OnErr result (Rose before now)
+  pub kept : OnOk result (now ≡ before)
 
 -- what is told after was told before, and R stands between
 abbrev pub Becomes : {A : Type 0} → Option A → Option A → (A → A → Type 0) → Type 0

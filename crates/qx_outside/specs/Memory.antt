@@ -1,5 +1,5 @@
 -- What a host in memory tells, and the rules by which its calls go.
-use Rattle.std.specs.Prelude.{ℕ, ◌≡◌, ◌+◌, ◌-◌, ◌/◌, ◌^◌, min, Bool, true, false, List, ◌++◌, ◌⊎◌, length, take, drop, reverse, slice_range, slice_index, nat_le, nat_lt, Option, Some, None, if◌then◌else◌}
+use Rattle.std.specs.Prelude.{ℕ, ◌≡◌, ◌+◌, ◌-◌, ◌/◌, ◌^◌, min, Bool, true, false, List, ◌++◌, length, take, drop, reverse, slice_range, slice_index, nat_le, nat_lt, Option, Some, None, if◌then◌else◌}
 use Rattle.std.specs.Option.{option_map}
 use Rattle.qx_outside.specs.declared.event.Attachment.{Attachment}
 use Rattle.qx_outside.specs.declared.memory.MemHost.{MemHost}

@@ -16,7 +16,6 @@ use Rattle.qx_pointers.proofs.PassedTests.{goes_as, goes_fails, goes_then}
 use Rattle.qx_pointers.proofs.PointerVisits.{AreOf, Begins, Meets, are_of, begins, block_at, meets_absent, meets_block, meets_stray, parts_of}
 use Rattle.qx_pointers.proofs.SeenParts.{sees_nothing, tests_at}
 use Rattle.qx_pointers.specs.declared.halt.Halt.{Halt}
-use Rattle.qx_pointers.specs.declared.halt.Halt.TheVariants as halts
 use Rattle.qx_pointers.specs.declared.node.LeafPlace.{LeafPlace}
 use Rattle.qx_pointers.specs.declared.node.Part.{Part}
 use Rattle.qx_pointers.specs.declared.node.Visitor.{Visitor}

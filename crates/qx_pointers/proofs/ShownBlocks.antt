@@ -1,7 +1,6 @@
 -- A device that is only read shows the same blocks before as after.
-use Rattle.std.proofs.Common.{◌≡◌, ℕ, ◌+◌, ◌*◌, ◌≤◌, List, [], ◌∷◌, refl, sym, ◌∙◌, ap, arith}
+use Rattle.std.proofs.Common.{◌≡◌, ℕ, ◌+◌, ◌*◌, List, [], ◌∷◌, refl, sym, ◌∙◌, ap, arith}
 use Rattle.std.specs.Prelude.{Bool, Option}
-use Rattle.qx_outside.specs.Causes.{Rose}
 use Rattle.qx_outside.specs.Trail.{History, bytes_of}
 use Rattle.qx_outside.specs.declared.event.Attachment.{Attachment}
 use Rattle.std.specs.Prelude.{map}
@@ -31,10 +30,6 @@ module _ {D : Type 0} {tells : D → Bool} {history : D → History} {attached :
     paths = q.paths ∙ p.paths;
     console = q.console ∙ p.console;
   }
-
--- faults that rose later rose from before
-pub rose_from : (a b c : ℕ) → a ≤ b → Rose b c → Rose a c
-rose_from a b c h r = omega (arith, h, r)
 
 -- one function of places that are the same
 map_alike : (f g : ℕ → ℕ) (h : ℕ → ℕ) → ((w : ℕ) → f w ≡ g w) → (xs : List ℕ) → map (λ w. h (f w)) xs ≡ map (λ w. h (g w)) xs

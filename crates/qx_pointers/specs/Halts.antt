@@ -16,7 +16,8 @@ abbrev pub Answers : {T : Type 0} → Option Finding → Result T Halt → Type 
 Answers f (Ok x) = f ≡ None
 Answers f (Err halt) = HaltsAt f halt
 
--- the count of faults never falls, and a halt by the device comes only where it rose
+-- the count of faults never falls, a halt by the device comes only where it rose, and any other answer only where it stands
 pub record IsCaused {T : Type 0} (before now : ℕ) (result : Result T Halt) : Type 0 where
   pub later : before ≤ now
   pub device : result ≡ Err halts.Device → Rose before now
+  pub kept : (result ≡ Err halts.Device → ⊥) → now ≡ before

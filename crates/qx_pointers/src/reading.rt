@@ -29,10 +29,8 @@ pub fn read_block<D: Dev>(
     ensures reads { JustReads D.tells D.history D.attached D.con_faults host.old host.new }
     ensures cause { HasCause (D.dev_faults host.old) (D.dev_faults host.new) result }
 {
-    host.read_at(
-        BLOCKS_BEGIN + u64::from(block) * u64::from(shape.blocksize),
-        into,
-    )
+    let at = BLOCKS_BEGIN + u64::from(block) * u64::from(shape.blocksize);
+    host.read_at(at, into)
 }
 
 /// Fills the slice with the pointers of a pointer block.

@@ -56,6 +56,8 @@ pub fn report_verdict<H: Host>(alloc: Global, host: &mut H, image: &str) -> Stat
     ensures exits { code_of result < 6 }
     ensures device { code_of result ≡ 3 → Rose (H.dev_faults host.old) (H.dev_faults host.new) }
     ensures console { code_of result ≡ 4 → Rose (H.con_faults host.old) (H.con_faults host.new) }
+    ensures kept { code_of result ≢ 3 → code_of result ≢ 4 → H.dev_faults host.new ≡ H.dev_faults host.old }
+    ensures console_kept { code_of result ≢ 4 → H.con_faults host.new ≡ H.con_faults host.old }
 {
     if host.attach(image, false).is_err() {
         return say(host, DEVICE_FAULT, Status::DeviceFault);

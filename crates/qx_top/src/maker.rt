@@ -1,5 +1,5 @@
 //! `mkqnx6fs IMAGE SIZE`: a new volume on an image.
-ghost use Rattle.std.specs.Prelude.{◌≡◌, ◌<◌, Err, Ok};
+ghost use Rattle.std.specs.Prelude.{◌≡◌, ◌≢◌, ◌<◌, Err, Ok};
 ghost use Rattle.qx_geom.specs.declared.geometry.GeomFault.{GeomFault};
 ghost use Rattle.qx_geom.specs.declared.geometry.Geometry.{Geometry};
 ghost use Rattle.qx_outside.specs.Causes.{Rose};
@@ -40,6 +40,8 @@ fn make_on<H: Host>(host: &mut H, image: &str, size: u64) -> Status
     ensures makes { (g : Geometry) → volume_of size ≡ Ok g → MakesVolume H.tells H.history H.extent H.attached H.dev_reads H.dev_faults image.now size g (code_of result) host.old host.new }
     ensures device { (g : Geometry) → volume_of size ≡ Ok g → code_of result ≡ 3 → Rose (H.dev_faults host.old) (H.dev_faults host.new) }
     ensures console { code_of result ≡ 4 → Rose (H.con_faults host.old) (H.con_faults host.new) }
+    ensures kept { code_of result ≢ 3 → code_of result ≢ 4 → H.dev_faults host.new ≡ H.dev_faults host.old }
+    ensures console_kept { code_of result ≢ 4 → H.con_faults host.new ≡ H.con_faults host.old }
 {
     let Ok(moment) = host.now() else {
         return Status::ConsoleFault;
@@ -63,6 +65,8 @@ pub fn make_volume<H: Host>(host: &mut H, image: &str, size: u64) -> Status
     ensures exits { code_of result < 5 }
     ensures device { code_of result ≡ 3 → Rose (H.dev_faults host.old) (H.dev_faults host.new) }
     ensures console { code_of result ≡ 4 → Rose (H.con_faults host.old) (H.con_faults host.new) }
+    ensures kept { code_of result ≢ 3 → code_of result ≢ 4 → H.dev_faults host.new ≡ H.dev_faults host.old }
+    ensures console_kept { code_of result ≢ 4 → H.con_faults host.new ≡ H.con_faults host.old }
 {
     match Geometry::new(size, BLOCKSIZE, inodes_for(size)) {
         Err(fault) => say(host, text_of_fault(fault), Status::BadWords),

@@ -32,6 +32,7 @@ pub fn say<H: Host>(host: &mut H, text: &str, owed: Status) -> Status
     ensures says { Says H.tells H.history text.now (code_of owed) (code_of result) host.old host.new }
     ensures others { LeavesDevice H.extent H.attached H.dev_reads H.dev_faults host.old host.new }
     ensures console { code_of result ≡ 4 → Rose (H.con_faults host.old) (H.con_faults host.new) }
+    ensures console_kept { code_of result ≢ 4 → H.con_faults host.new ≡ H.con_faults host.old }
 {
     match host.put(text.as_bytes()) {
         Ok(()) => owed,
@@ -90,6 +91,8 @@ fn obey<H: Host>(alloc: Global, words: &[String], host: &mut H) -> Status
     ensures words { code_of result ≡ 1 → (line : List ℕ) × IsRefused (texts_of words.now) line }
     ensures device { code_of result ≡ 3 → Rose (H.dev_faults host.old) (H.dev_faults host.new) }
     ensures console { code_of result ≡ 4 → Rose (H.con_faults host.old) (H.con_faults host.new) }
+    ensures kept { code_of result ≢ 3 → code_of result ≢ 4 → H.dev_faults host.new ≡ H.dev_faults host.old }
+    ensures console_kept { code_of result ≢ 4 → H.con_faults host.new ≡ H.con_faults host.old }
     ensures memory { code_of result ≡ 5 → (image : List ℕ) × AsksForVerdict (texts_of words.now) image }
 {
     if let Some(image) = image_of_supers(words) {
@@ -133,6 +136,8 @@ pub fn run<H: Host>(alloc: Global, words: &[String], host: H) -> Ended<H>
     ensures words { result.status ≡ 1 → (line : List ℕ) × IsRefused (texts_of words.now) line }
     ensures device { result.status ≡ 3 → Rose (H.dev_faults host) (H.dev_faults result.host) }
     ensures console { result.status ≡ 4 → Rose (H.con_faults host) (H.con_faults result.host) }
+    ensures kept { result.status ≢ 3 → result.status ≢ 4 → H.dev_faults result.host ≡ H.dev_faults host }
+    ensures console_kept { result.status ≢ 4 → H.con_faults result.host ≡ H.con_faults host }
     ensures memory { result.status ≡ 5 → (image : List ℕ) × AsksForVerdict (texts_of words.now) image }
     ensures complete { (Rose (H.dev_faults host) (H.dev_faults result.host) → ⊥) → (Rose (H.con_faults host) (H.con_faults result.host) → ⊥) → (result.status < 3) ⊎ (result.status ≡ 5) }
 {

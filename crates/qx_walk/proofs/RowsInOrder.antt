@@ -1,5 +1,5 @@
 -- A directory's records, gone through one after another.
-use Rattle.std.proofs.Common.{◌≡◌, ℕ, List, [], ◌∷◌, ◌++◌, ◌≤◌, refl, ap, sym, ◌∙◌, subst, arith}
+use Rattle.std.proofs.Common.{◌≡◌, ℕ, List, [], ◌∷◌, ◌++◌, refl, ap, sym, ◌∙◌, subst, arith}
 use Rattle.std.specs.Prelude.{Bool, false, IsTrue, Option, None, Result, Ok, Err, OnOk, IfOk, count_by, ◌==◌, ◌%◌, map, min}
 use Rattle.std.proofs.lemmas.List.{append-nil}
 use Rattle.std.proofs.lemmas.Result.{on_ok_weaker}
@@ -13,7 +13,7 @@ use Rattle.qx_view.specs.Sound.{is_foreign_directory, long_number, numbers_named
 use Rattle.qx_view.specs.Walk.{Finding, first_failing, gone_through, inodes_named_in, listed_after, named_inode, new_ones, record_tests, records_tests}
 use Rattle.qx_pointers.proofs.PassedTests.{halts_more}
 use Rattle.qx_walk.proofs.KeptLists.{HaveSame, all_counted, all_listed, all_queued, tests_append, with_append}
-use Rattle.qx_pointers.proofs.ShownBlocks.{rose_from}
+use Rattle.qx_outside.specs.Causes.{Rose}
 use Rattle.qx_pointers.specs.declared.halt.Halt.{Halt}
 use Rattle.qx_pointers.specs.declared.halt.Halt.TheVariants as halts
 use Rattle.qx_walk.specs.declared.listing.Listing.{Listing}
@@ -41,13 +41,17 @@ halted halt = Err halt
 same_halt : {T U : Type 0} (x y : Halt) → halted {T = T} x ≡ halted {T = T} y → halted {T = U} x ≡ halted {T = U} y
 same_halt {U = U} x y e = let same : x ≡ y = cc in ap (halted {T = U}) same
 
--- a halt that is explained from a later count of faults on is explained from an earlier one
-pub caused_halt : {T U : Type 0} (a b c : ℕ) (halt : Halt) → a ≤ b → IsCaused {T = U} b c (Err halt) → IsCaused {T = T} a c (Err halt)
-caused_halt {T = T} {U = U} a b c halt low p = record { later = omega (arith, low, p.later); device = λ e. rose_from a b c low (p.device (same_halt {T = T} {U = U} halt halts.Device e)) }
+-- a halt that is explained from a count of faults on is explained from one that is the same
+pub caused_halt : {T U : Type 0} (a b c : ℕ) (halt : Halt) → b ≡ a → IsCaused {T = U} b c (Err halt) → IsCaused {T = T} a c (Err halt)
+caused_halt {T = T} {U = U} a b c halt same p = record {
+  later = omega (arith, same, p.later);
+  device = λ e. subst (λ n. Rose n c) same (p.device (same_halt {T = T} {U = U} halt halts.Device e));
+  kept = λ no. p.kept (λ e. no (same_halt {T = U} {U = T} halt halts.Device e)) ∙ same;
+}
 
--- an Ok needs no explanation
-pub caused_none : {T : Type 0} (a b : ℕ) (x : T) → a ≤ b → IsCaused {T = T} a b (Ok x)
-caused_none a b x low = record { later = low; device = λ e. absurd (cc) }
+-- an Ok where no fault was counted
+pub caused_none : {T : Type 0} (a b : ℕ) (x : T) → b ≡ a → IsCaused {T = T} a b (Ok x)
+caused_none a b x same = record { later = omega (arith, same); device = λ e. absurd (cc); kept = λ _. same }
 
 -- ---- records end to end
 

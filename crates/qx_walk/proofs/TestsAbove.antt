@@ -17,7 +17,7 @@ use Rattle.qx_nodes.specs.ForeignNodes.{is_foreign_node}
 use Rattle.qx_view.specs.Sound.{fails_dots, fails_nodes, fails_tail, has_tail}
 use Rattle.qx_view.specs.Walk.{Test, Tested, finding_of, first_failing, inode_tests, is_directory_inode, root_tests, taken_of, top_tests}
 use Rattle.qx_pointers.proofs.PassedTests.{goes_fails, goes_then}
-use Rattle.qx_pointers.proofs.ShownBlocks.{rose_from}
+use Rattle.qx_outside.specs.Causes.{Rose}
 use Rattle.qx_pointers.specs.declared.halt.Halt.{Halt}
 use Rattle.qx_pointers.specs.declared.halt.Halt.TheVariants as halts
 use Rattle.qx_walk.specs.declared.notes.Notes.{Notes}
@@ -54,8 +54,8 @@ one_halt (halts.Finding code inode block) r a b = absurd (cc (a, b))
 one_halt halts.NoMemory r a b = absurd (cc (a, b))
 
 -- a test that fails is no fault, whatever came before
-pub caused_by_test : {T U : Type 0} (n k : ℕ) (halt : Halt) → n ≤ k → ((faults : ℕ) → IsCaused {T = U} faults faults (Err halt)) → IsCaused {T = T} n k (Err halt)
-caused_by_test n k halt h p = record { later = h; device = λ e. rose_from n k k h ((p k).device (ap (λ z. Err z) (one_halt halt _ refl e))) }
+pub caused_by_test : {T U : Type 0} (n k : ℕ) (halt : Halt) → k ≡ n → ((faults : ℕ) → IsCaused {T = U} faults faults (Err halt)) → IsCaused {T = T} n k (Err halt)
+caused_by_test n k halt same p = record { later = omega (arith, same); device = λ e. subst (λ a. Rose a k) same ((p k).device (ap (λ z. Err z) (one_halt halt _ refl e))); kept = λ _. same }
 
 module _ (m : BlockMap) (r : Roots) where
   -- the tests of the Inode tree, of the Longfile, of further root nodes, and of all inodes

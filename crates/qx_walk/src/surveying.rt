@@ -26,6 +26,7 @@ pub fn walk<D: Dev>(alloc: Global, host: &mut D, len: u64) -> Result<Survey, Wal
     ensures reads { JustReads D.tells D.history D.attached D.con_faults host.old host.new }
     ensures later { D.dev_faults host.old ≤ D.dev_faults host.new }
     ensures device { result ≡ Err faults.Device → Rose (D.dev_faults host.old) (D.dev_faults host.new) }
+    ensures kept { (result ≡ Err faults.Device → ⊥) → D.dev_faults host.new ≡ D.dev_faults host.old }
 {
     let mut first = [0; 512];
     let mut second = [0; 512];
@@ -57,6 +58,7 @@ fn survey<D: Dev>(
     ensures reads { JustReads D.tells D.history D.attached D.con_faults host.old host.new }
     ensures later { D.dev_faults host.old ≤ D.dev_faults host.new }
     ensures device { result ≡ Err faults.Device → Rose (D.dev_faults host.old) (D.dev_faults host.new) }
+    ensures kept { (result ≡ Err faults.Device → ⊥) → D.dev_faults host.new ≡ D.dev_faults host.old }
 {
     let shape = Shape {
         order: view.order(),

@@ -1,4 +1,4 @@
-use Rattle.std.proofs.Common.{◌≡◌, ◌<◌, ◌≤◌, ℕ, IsTrue, slice_index}
+use Rattle.std.proofs.Common.{◌≡◌, ◌<◌, ℕ, IsTrue, slice_index}
 use Rattle.qx_blocks.specs.Growth.{Grows}
 use Rattle.block_tests.proofs.blocks.copy_each.Given as goal
 
@@ -9,5 +9,5 @@ invariant-loop-i g l = record {
   copies : IsTrue (g.B.Blocks.state l.blocks).tells → (k : ℕ) → k < l.i
       → (g.B.Blocks.state l.blocks).bytes (slice_index l.into k) ≡ (g.B.Blocks.state l.fn.blocks).bytes (slice_index l.from k);
   aside : g.B.Blocks.aside l.blocks ≡ g.B.Blocks.aside l.fn.blocks;
-  later : g.B.Blocks.faults l.fn.blocks ≤ g.B.Blocks.faults l.blocks;
+  faults : g.B.Blocks.faults l.blocks ≡ g.B.Blocks.faults l.fn.blocks;
 }

@@ -1,4 +1,4 @@
-use Rattle.std.proofs.Common.{◌≡◌, ◌∙◌, ◌≤◌, ◌+◌, ap, length, List, ℕ, arith, slice_range}
+use Rattle.std.proofs.Common.{rules, ◌≡◌, ◌∙◌, ◌≤◌, ◌+◌, ap, length, List, ℕ, arith, slice_range}
 use Rattle.std.specs.Prelude.{IsTrue}
 use Rattle.qx_nodes.specs.Content.{leaf_bytes}
 use Rattle.qx_blocks.specs.BlockState.{BlockState}
@@ -32,5 +32,5 @@ loop-index-preserved g c =
       rest = rest_stays into part p.from p.count c.min-count.result long c.piece_in-piece.ensures.within room ∙ c.loop-index.invariant.rest;
       long = put_length into part p.from p.count long room ∙ c.loop-index.invariant.long;
       aside = c.read_leaf.ensures.aside ∙ c.loop-index.invariant.aside;
-      faults = omega (arith, c.loop-index.invariant.faults, c.read_leaf.ensures.cause.later);
+      faults = search (rules, c.read_leaf.ensures.cause.kept, c.loop-index.invariant.faults);
     }

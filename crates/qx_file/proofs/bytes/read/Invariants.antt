@@ -1,4 +1,4 @@
-use Rattle.std.proofs.Common.{◌≡◌, ℕ, ◌+◌, ◌-◌, ◌*◌, ◌<◌, ◌≤◌, drop, length}
+use Rattle.std.proofs.Common.{◌≡◌, ℕ, ◌+◌, ◌-◌, ◌*◌, ◌<◌, drop, length}
 use Rattle.std.specs.Prelude.{IsTrue, slice_index}
 use Rattle.qx_nodes.specs.Content.{byte_of}
 use Rattle.qx_blocks.specs.Calls.{Keeps}
@@ -14,5 +14,5 @@ invariant-loop-index g l = record {
   rest : drop l.count l.into ≡ drop l.count l.initial.into;
   long : length l.into ≡ length l.initial.into;
   aside : g.B.Blocks.aside l.blocks ≡ g.B.Blocks.aside l.initial.blocks;
-  faults : g.B.Blocks.faults l.initial.blocks ≤ g.B.Blocks.faults l.blocks;
+  faults : g.B.Blocks.faults l.blocks ≡ g.B.Blocks.faults l.initial.blocks;
 }

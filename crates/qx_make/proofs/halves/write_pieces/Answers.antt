@@ -16,7 +16,7 @@ pub loop-first-init : goal.loop-first-init
 loop-first-init g c = record {
   begun = λ bytes long. no_piece c.args.volume.now.geometry c.requires.geometry c.args.volume.now.order c.args.volume.now.moment bytes long g.D.Dev.tells g.D.Dev.history c.args.host.now;
   others = search rules;
-  later = omega arith;
+  faults = refl;
   buffer = refl;
   within = omega arith;
 }
@@ -57,7 +57,7 @@ loop-first-preserved g c = record {
     reads = c.write_at.ensures.others.reads ∙ c.loop-first.invariant.others.reads;
     console = c.write_at.ensures.others.console ∙ c.loop-first.invariant.others.console;
   };
-  later = omega (arith, c.loop-first.invariant.later, c.write_at.ensures.cause.later);
+  faults = search (rules, c.write_at.ensures.cause.kept, c.loop-first.invariant.faults);
   buffer =
       (let whole : 65536 / c.args.volume.now.geometry.blocksize * c.args.volume.now.geometry.blocksize ≤ 65536 = div-mul-le_self 65536 c.args.volume.now.geometry.blocksize in
       let few : c.min-count.result * c.args.volume.now.geometry.blocksize ≤ 65536 / c.args.volume.now.geometry.blocksize * c.args.volume.now.geometry.blocksize = mul-le-mul_right c.args.volume.now.geometry.blocksize (let least : c.min-count.result ≤ 65536 / c.args.volume.now.geometry.blocksize = omega (arith, c.min-count.ensures) in least) in

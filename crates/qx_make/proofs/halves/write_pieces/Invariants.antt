@@ -13,7 +13,7 @@ invariant-loop-first g l = record {
       → HasBegun g.D.Dev.tells g.D.Dev.history (blocks_stage l.volume.geometry l.volume.order l.volume.moment bytes)
       (put_at bytes 0x3000 (flat_map (made_block_bytes l.volume.geometry l.volume.order l.volume.moment) (range_with_len 0 l.first))) l.fn.host l.host;
   others : LeavesRest g.D.Dev.extent g.D.Dev.attached g.D.Dev.dev_reads g.D.Dev.con_faults l.fn.host l.host;
-  later : g.D.Dev.dev_faults l.fn.host ≤ g.D.Dev.dev_faults l.host;
+  faults : g.D.Dev.dev_faults l.host ≡ g.D.Dev.dev_faults l.fn.host;
   buffer : length l.buffer ≡ 65536;
   within : l.first ≤ l.blocks;
 }

@@ -130,7 +130,7 @@ visit_each-loop-place-preserved g t c =
       limit = c.visit.ensures.limit ∙ c.loop-place.invariant.limit;
       fits = c.visit.ensures.fits;
       reads = reads_then c.args.host.now c.loop-place.host c.visit.new.host c.loop-place.invariant.reads c.visit.ensures.reads;
-      faults = omega (arith, c.loop-place.invariant.faults, c.visit.ensures.cause.later);
+      faults = search (rules, c.visit.ensures.cause.kept, c.loop-place.invariant.faults);
     }
 
 pub visit_each-returns-clause-sees : goal.visit_each-returns-clause-sees

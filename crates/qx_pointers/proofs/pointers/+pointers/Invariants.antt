@@ -25,5 +25,5 @@ invariant-visit_each-loop-place g l = record {
   limit : limit_of l.met ≡ limit_of l.fn.met;
   fits : Fits g.D.Dev.extent l.visitor.shape l.host;
   reads : JustReads g.D.Dev.tells g.D.Dev.history g.D.Dev.attached g.D.Dev.con_faults l.fn.host l.host;
-  faults : g.D.Dev.dev_faults l.fn.host ≤ g.D.Dev.dev_faults l.host;
+  faults : g.D.Dev.dev_faults l.host ≡ g.D.Dev.dev_faults l.fn.host;
 }

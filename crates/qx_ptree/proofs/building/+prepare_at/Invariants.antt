@@ -1,4 +1,4 @@
-use Rattle.std.proofs.Common.{◌≡◌, ◌≤◌, ◌+◌, ◌-◌, ◌*◌, IsTrue, length, slice_index}
+use Rattle.std.proofs.Common.{◌≡◌, ◌+◌, ◌-◌, ◌*◌, IsTrue, length, slice_index}
 use Rattle.qx_geom.specs.Pointer.{per_block}
 use Rattle.qx_ptree.specs.Building.{BuildsOnto}
 use Rattle.qx_ptree.specs.Parts.{part_of}
@@ -28,5 +28,5 @@ invariant-loop-w g l = record {
   present : IsTrue (g.B.Blocks.state l.blocks).tells
       → l.present ≡ any_up_to l.w (λ v. (part_of (alteration_in l.fn.plan (g.B.Blocks.state l.fn.blocks)) (l.fn.level - 1) (l.fn.index * per_block (g.B.Blocks.state l.fn.blocks).holdings.size + v)).present);
   aside : g.B.Blocks.aside l.blocks ≡ g.B.Blocks.aside l.fn.blocks;
-  faults : g.B.Blocks.faults l.fn.blocks ≤ g.B.Blocks.faults l.blocks;
+  faults : g.B.Blocks.faults l.blocks ≡ g.B.Blocks.faults l.fn.blocks;
 }

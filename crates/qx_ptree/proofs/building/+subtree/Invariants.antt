@@ -1,4 +1,4 @@
-use Rattle.std.proofs.Common.{◌≡◌, ◌≤◌, ◌+◌, ◌*◌, Ok}
+use Rattle.std.proofs.Common.{◌≡◌, ◌+◌, ◌*◌, Ok}
 use Rattle.qx_geom.specs.Pointer.{per_block}
 use Rattle.qx_blocks.specs.Calls.{Keeps}
 use Rattle.qx_ptree.specs.Building.{GivesUp, LiesUnder}
@@ -18,5 +18,5 @@ invariant-give_up_each-loop-w g l = record {
       (LiesUnder (per_block (g.B.Blocks.state l.fn.blocks).holdings.size) (record { level = l.level; first = l.first; count = l.w })) (Ok tt);
   keeps : Keeps (g.B.Blocks.state l.fn.blocks) (g.B.Blocks.state l.blocks);
   aside : g.B.Blocks.aside l.blocks ≡ g.B.Blocks.aside l.fn.blocks;
-  faults : g.B.Blocks.faults l.fn.blocks ≤ g.B.Blocks.faults l.blocks;
+  faults : g.B.Blocks.faults l.blocks ≡ g.B.Blocks.faults l.fn.blocks;
 }

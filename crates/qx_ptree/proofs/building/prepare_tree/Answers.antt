@@ -40,7 +40,7 @@ loop-j-init g c = record {
   long = refl;
   told = λ told. told;
   aside = search rules;
-  faults = search (rules, arith);
+  faults = search rules;
 }
 
 pub prepare_at-requires-clause-reach : goal.prepare_at-requires-clause-reach
@@ -93,7 +93,7 @@ loop-j-preserved g c =
       long = length-set c.loop-j.pointers c.loop-j.j c.in_ok-pointers.field-0.pointer ∙ c.loop-j.invariant.long;
       told = λ told. c.loop-j.invariant.told (c.in_ok-pointers.ensures.reaches.adds.takes.told_before told);
       aside = search rules;
-      faults = search (rules, arith);
+      faults = search rules;
     }
 
 pub returns-clause-built : goal.returns-clause-built

@@ -1,4 +1,4 @@
-use Rattle.std.proofs.Common.{◌≡◌, ◌≤◌, length, IsTrue}
+use Rattle.std.proofs.Common.{◌≡◌, length, IsTrue}
 use Rattle.qx_ptree.proofs.WholeNodes.{IsUnderway}
 use Rattle.qx_ptree.proofs.building.prepare_tree.Given as goal
 
@@ -9,5 +9,5 @@ invariant-loop-j g l = record {
   long : length l.pointers ≡ 16;
   told : IsTrue (g.B.Blocks.state l.blocks).tells → IsTrue (g.B.Blocks.state l.initial.blocks).tells;
   aside : g.B.Blocks.aside l.blocks ≡ g.B.Blocks.aside l.fn.blocks;
-  faults : g.B.Blocks.faults l.fn.blocks ≤ g.B.Blocks.faults l.blocks;
+  faults : g.B.Blocks.faults l.blocks ≡ g.B.Blocks.faults l.fn.blocks;
 }

@@ -95,7 +95,7 @@ loop-w-preserved g t c =
       told = λ told. c.loop-w.invariant.told (mid_told told);
       keeps = kept_again m mid new c.loop-w.invariant.keeps c.in_ok-part_at.ensures.keeps;
       aside = search rules;
-      faults = search (rules, arith);
+      faults = search rules;
     }
 
 pub overflow_add-part : goal.overflow_add-part

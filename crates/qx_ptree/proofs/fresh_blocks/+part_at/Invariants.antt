@@ -21,5 +21,5 @@ invariant-loop-w g l =
       few : l.part.need + l.w ≤ l.w * (2 * per_block m.holdings.size ^ (l.level - 1));
       keeps : Keeps m (g.B.Blocks.state l.blocks);
       aside : g.B.Blocks.aside l.blocks ≡ g.B.Blocks.aside l.fn.blocks;
-      faults : g.B.Blocks.faults l.fn.blocks ≤ g.B.Blocks.faults l.blocks;
+      faults : g.B.Blocks.faults l.blocks ≡ g.B.Blocks.faults l.fn.blocks;
     }

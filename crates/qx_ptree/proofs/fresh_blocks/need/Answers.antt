@@ -21,7 +21,7 @@ loop-j-init g c = record {
   told = λ told. told;
   keeps = c.top_pointers.ensures.keeps;
   aside = c.top_pointers.ensures.aside;
-  faults = c.top_pointers.ensures.cause.later;
+  faults = search (rules, c.top_pointers.ensures.cause.kept);
 }
 
 pub part_at-requires-clause-reach : goal.part_at-requires-clause-reach
@@ -73,7 +73,7 @@ loop-j-preserved g c =
       told = λ told. c.loop-j.invariant.told (mid_told told);
       keeps = kept_again m mid new c.loop-j.invariant.keeps c.in_ok-part.ensures.keeps;
       aside = search rules;
-      faults = search (rules, arith);
+      faults = search rules;
     }
 
 pub returns-clause-need : goal.returns-clause-need

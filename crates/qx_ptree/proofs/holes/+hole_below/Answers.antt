@@ -134,7 +134,7 @@ loop-w-preserved g t c =
       told = λ told. c.loop-w.invariant.told (told_before mid new c.in_ok-hole.ensures.keeps told);
       keeps = kept_again m mid new c.loop-w.invariant.keeps c.in_ok-hole.ensures.keeps;
       aside = search rules;
-      faults = search (rules, arith);
+      faults = search rules;
     }
 
 pub returns-clause-hole : goal.returns-clause-hole

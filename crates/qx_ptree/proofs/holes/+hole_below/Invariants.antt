@@ -1,4 +1,4 @@
-use Rattle.std.proofs.Common.{◌≡◌, ◌≤◌, ◌+◌, ◌*◌, ◌-◌, ◌^◌, IsTrue}
+use Rattle.std.proofs.Common.{◌≡◌, ◌+◌, ◌*◌, ◌-◌, ◌^◌, IsTrue}
 use Rattle.qx_geom.specs.Pointer.{per_block}
 use Rattle.qx_nodes.specs.Visits.{present_of}
 use Rattle.qx_blocks.specs.Calls.{Keeps}
@@ -19,5 +19,5 @@ invariant-loop-w g l =
       told : IsTrue (g.B.Blocks.state l.blocks).tells → IsTrue (g.B.Blocks.state l.initial.blocks).tells;
       keeps : Keeps m (g.B.Blocks.state l.blocks);
       aside : g.B.Blocks.aside l.blocks ≡ g.B.Blocks.aside l.fn.blocks;
-      faults : g.B.Blocks.faults l.fn.blocks ≤ g.B.Blocks.faults l.blocks;
+      faults : g.B.Blocks.faults l.blocks ≡ g.B.Blocks.faults l.fn.blocks;
     }

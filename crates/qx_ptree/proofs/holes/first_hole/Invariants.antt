@@ -1,4 +1,4 @@
-use Rattle.std.proofs.Common.{◌≡◌, ◌≤◌, ◌*◌, ◌^◌, IsTrue}
+use Rattle.std.proofs.Common.{◌≡◌, ◌*◌, ◌^◌, IsTrue}
 use Rattle.qx_geom.specs.Pointer.{per_block}
 use Rattle.qx_nodes.specs.Visits.{present_of}
 use Rattle.qx_blocks.specs.Calls.{Keeps}
@@ -14,5 +14,5 @@ invariant-loop-j g l =
       each : IsTrue (g.B.Blocks.state l.blocks).tells → HasEach (present_of (block_map l.order m) l.node) 0 (l.j * per_block m.holdings.size ^ l.node.levels);
       keeps : Keeps m (g.B.Blocks.state l.blocks);
       aside : g.B.Blocks.aside l.blocks ≡ g.B.Blocks.aside l.fn.blocks;
-      faults : g.B.Blocks.faults l.fn.blocks ≤ g.B.Blocks.faults l.blocks;
+      faults : g.B.Blocks.faults l.blocks ≡ g.B.Blocks.faults l.fn.blocks;
     }

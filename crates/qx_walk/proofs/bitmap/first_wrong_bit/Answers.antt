@@ -1,5 +1,5 @@
 use Rattle.std.proofs.lemmas.Result.{err_from_is_err_and}
-use Rattle.std.proofs.Common.{◌≡◌, ℕ, ◌+◌, ◌*◌, sym, ◌∙◌, ap, subst, arith}
+use Rattle.std.proofs.Common.{rules, ◌≡◌, ℕ, ◌+◌, ◌*◌, sym, ◌∙◌, ap, subst, arith}
 use Rattle.std.specs.Prelude.{None, Some}
 use Rattle.qx_geom.proofs.VolumeNumbers.{IsGeometry-keeps}
 use Rattle.qx_walk.specs.Bitmaps.{IsFirst, is_wrong_bit, is_wrong_in}
@@ -28,7 +28,7 @@ pub loop-leaf-preserved : goal.loop-leaf-preserved
 loop-leaf-preserved g c = record {
   reads = reads_then c.args.host.now c.loop-leaf.host c.first_wrong_in_leaf.new.host c.loop-leaf.invariant.reads c.first_wrong_in_leaf.ensures.reads;
   fits = c.first_wrong_in_leaf.ensures.fits;
-  later = omega (arith, c.loop-leaf.invariant.later, c.first_wrong_in_leaf.ensures.cause.later);
+  faults = search (rules, c.first_wrong_in_leaf.ensures.cause.kept, c.loop-leaf.invariant.faults);
   bits = λ m shows.
       let size : m.size ≡ c.args.shape.blocksize = shown_size c.args.shape c.first_wrong_in_leaf.new.host m shows in
       let begin : ℕ = c.from.result * c.from-in-loop-leaf.result in

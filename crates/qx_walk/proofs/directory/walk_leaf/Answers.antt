@@ -1,4 +1,4 @@
-use Rattle.std.proofs.Common.{◌≡◌, ℕ, ◌-◌, ◌*◌, ◌/◌, ◌%◌, ◌<◌, ◌≤◌, refl, sym, ◌∙◌, ap, subst, arith}
+use Rattle.std.proofs.Common.{rules, ◌≡◌, ℕ, ◌-◌, ◌*◌, ◌/◌, ◌%◌, ◌<◌, ◌≤◌, refl, sym, ◌∙◌, ap, subst, arith}
 use Rattle.std.specs.Prelude.{Ok, Err, min}
 use Rattle.std.specs.List.{range_with_len}
 use Rattle.std.proofs.lemmas.Result.{err_from_is_err_and}
@@ -27,7 +27,7 @@ loop-place-init g c = record {
   next = refl;
   fits = c.read_block.ensures.fits;
   reads = reads_none c.read_block.new.host;
-  faults = omega arith;
+  faults = search rules;
 }
 
 pub loop-place-preserved : goal.loop-place-preserved
@@ -55,7 +55,7 @@ loop-place-preserved g c =
       next = c.walk_record.ensures.next ∙ c.loop-place.invariant.next;
       fits = c.walk_record.ensures.fits;
       reads = reads_then c.read_block.new.host c.loop-place.host c.walk_record.new.host c.loop-place.invariant.reads c.walk_record.ensures.reads;
-      faults = omega (arith, c.loop-place.invariant.faults, c.walk_record.ensures.cause.later);
+      faults = search (rules, c.walk_record.ensures.cause.kept, c.loop-place.invariant.faults);
     }
 
 pub returns-in_err-walk_record-clause-walked : goal.returns-in_err-walk_record-clause-walked
@@ -86,7 +86,7 @@ returns-in_err-walk_record-clause-reads g c =
 pub returns-in_err-walk_record-clause-cause : goal.returns-in_err-walk_record-clause-cause
 returns-in_err-walk_record-clause-cause g c =
     let p = err_from_is_err_and c.from_residual-in_err-walk_record.result c.from_residual-in_err-walk_record.ensures.1 in
-    rw (p.1, p.2) (caused_halt _ _ _ c.in_err-walk_record.field-0.0 (omega (arith, c.read_block.ensures.cause.later, c.loop-place.invariant.faults)) c.in_err-walk_record.ensures.cause)
+    rw (p.1, p.2) (caused_halt _ _ _ c.in_err-walk_record.field-0.0 (c.loop-place.invariant.faults ∙ c.in_ok-read_block.ensures.cause.kept) c.in_err-walk_record.ensures.cause)
 
 pub returns-clause-walked : goal.returns-clause-walked
 returns-clause-walked g c = λ m r kept s i h at.
@@ -123,4 +123,4 @@ pub returns-clause-reads : goal.returns-clause-reads
 returns-clause-reads g c = reads_then c.args.host.now c.read_block.new.host c.loop-place.host c.read_block.ensures.reads c.loop-place.invariant.reads
 
 pub returns-clause-cause : goal.returns-clause-cause
-returns-clause-cause g c = caused_none _ _ c.begins_with_dots.result (omega (arith, c.read_block.ensures.cause.later, c.loop-place.invariant.faults))
+returns-clause-cause g c = caused_none _ _ c.begins_with_dots.result (c.loop-place.invariant.faults ∙ c.in_ok-read_block.ensures.cause.kept)

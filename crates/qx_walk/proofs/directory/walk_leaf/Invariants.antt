@@ -1,4 +1,4 @@
-use Rattle.std.proofs.Common.{◌≡◌, ◌≤◌, ◌*◌, ◌/◌, ℕ}
+use Rattle.std.proofs.Common.{◌≡◌, ◌*◌, ◌/◌, ℕ}
 use Rattle.std.specs.Prelude.{Ok}
 use Rattle.std.specs.List.{range_with_len}
 use Rattle.qx_nodes.specs.BlockMap.{BlockMap}
@@ -21,5 +21,5 @@ invariant-loop-place g l = record {
   next : l.seen.listing.next ≡ l.fn.seen.listing.next;
   fits : Fits g.D.Dev.extent l.ground.shape l.host;
   reads : JustReads g.D.Dev.tells g.D.Dev.history g.D.Dev.attached g.D.Dev.con_faults l.initial.host l.host;
-  faults : g.D.Dev.dev_faults l.initial.host ≤ g.D.Dev.dev_faults l.host;
+  faults : g.D.Dev.dev_faults l.host ≡ g.D.Dev.dev_faults l.initial.host;
 }

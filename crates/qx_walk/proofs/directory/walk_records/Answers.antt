@@ -1,4 +1,4 @@
-use Rattle.std.proofs.Common.{◌≡◌, ℕ, ◌%◌, ◌<◌, ◌≤◌, inl, inr, List, length, get_or, take, refl, sym, ◌∙◌, ap, subst, arith}
+use Rattle.std.proofs.Common.{rules, ◌≡◌, ℕ, ◌%◌, ◌<◌, ◌≤◌, inl, inr, List, length, get_or, take, refl, sym, ◌∙◌, ap, subst, arith}
 use Rattle.std.specs.Prelude.{Bool, Contains, Ok, Err}
 use Rattle.std.proofs.lemmas.List.{take_all, take_more}
 use Rattle.std.proofs.lemmas.List.Elements.{Contains-get_or, Contains-push_cases}
@@ -33,7 +33,7 @@ loop-leaf-init g c = record {
   next = refl;
   fits = c.requires.fits;
   reads = reads_none c.args.host.now;
-  faults = omega arith;
+  faults = search rules;
 }
 
 pub loop-leaf-preserved : goal.loop-leaf-preserved
@@ -68,7 +68,7 @@ loop-leaf-preserved g c =
       next = c.walk_leaf.ensures.next ∙ c.loop-leaf.invariant.next;
       fits = c.walk_leaf.ensures.fits;
       reads = reads_then c.args.host.now c.loop-leaf.host c.walk_leaf.new.host c.loop-leaf.invariant.reads c.walk_leaf.ensures.reads;
-      faults = omega (arith, c.loop-leaf.invariant.faults, c.walk_leaf.ensures.cause.later);
+      faults = search (rules, c.walk_leaf.ensures.cause.kept, c.loop-leaf.invariant.faults);
     }
 
 pub returns-in_err-begins-clause-walked : goal.returns-in_err-begins-clause-walked

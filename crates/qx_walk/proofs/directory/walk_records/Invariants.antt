@@ -1,4 +1,4 @@
-use Rattle.std.proofs.Common.{◌≡◌, ◌≤◌, ℕ, List, take}
+use Rattle.std.proofs.Common.{◌≡◌, ℕ, List, take}
 use Rattle.std.specs.Prelude.{Ok, Contains}
 use Rattle.qx_nodes.specs.BlockMap.{BlockMap}
 use Rattle.qx_view.specs.Images.{Roots}
@@ -24,5 +24,5 @@ invariant-loop-leaf g l = record {
   next : l.seen.listing.next ≡ l.fn.seen.listing.next;
   fits : Fits g.D.Dev.extent l.ground.shape l.host;
   reads : JustReads g.D.Dev.tells g.D.Dev.history g.D.Dev.attached g.D.Dev.con_faults l.fn.host l.host;
-  faults : g.D.Dev.dev_faults l.fn.host ≤ g.D.Dev.dev_faults l.host;
+  faults : g.D.Dev.dev_faults l.host ≡ g.D.Dev.dev_faults l.fn.host;
 }

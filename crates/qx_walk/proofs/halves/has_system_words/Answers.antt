@@ -1,5 +1,5 @@
 use Rattle.std.proofs.lemmas.Result.{err_from_is_err_and}
-use Rattle.std.proofs.Common.{◌≡◌, inl, inr, sym, ◌∙◌, subst, arith, true}
+use Rattle.std.proofs.Common.{rules, ◌≡◌, inl, inr, sym, ◌∙◌, subst, arith, true}
 use Rattle.std.proofs.lemmas.Bool.{cases_lt}
 use Rattle.qx_walk.specs.Layouts.{are_words_of}
 use Rattle.qx_walk.proofs.PointerWords.{right_words, wrong_words}
@@ -16,7 +16,7 @@ pub loop-block-preserved : goal.loop-block-preserved
 loop-block-preserved g c = record {
   reads = reads_then c.args.host.now c.loop-block.host c.has_right_words.new.host c.loop-block.invariant.reads c.has_right_words.ensures.reads;
   fits = c.has_right_words.ensures.fits;
-  later = omega (arith, c.loop-block.invariant.later, c.has_right_words.ensures.cause.later);
+  faults = search (rules, c.has_right_words.ensures.cause.kept, c.loop-block.invariant.faults);
   words = λ m shows b p low. elim (cases_lt b c.loop-block.block) [
     | inl before ↦ c.loop-block.invariant.words m (shows_before c.args.shape c.loop-block.host c.has_right_words.new.host m c.has_right_words.ensures.reads shows) b p before
     | inr here ↦

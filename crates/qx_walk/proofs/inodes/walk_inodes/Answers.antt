@@ -1,4 +1,4 @@
-use Rattle.std.proofs.Common.{refl, ◌∙◌, arith}
+use Rattle.std.proofs.Common.{rules, refl, ◌∙◌}
 use Rattle.std.proofs.lemmas.Result.{err_from_is_err_and}
 use Rattle.qx_walk.proofs.AllInodes.{begins, halts_there, kind_known, remembers_rest, way_ends, way_goes_on, without_first}
 use Rattle.qx_pointers.proofs.ShownBlocks.{reads_none, reads_then, shows_before}
@@ -13,7 +13,7 @@ loop-queued-init g c = record {
   listing = c.requires.listing;
   fits = c.requires.fits;
   reads = reads_none c.args.host.now;
-  faults = omega arith;
+  faults = search rules;
 }
 
 pub loop-queued-preserved : goal.loop-queued-preserved
@@ -32,7 +32,7 @@ loop-queued-preserved g c = record {
   listing = c.walk_inode.ensures.listing;
   fits = c.walk_inode.ensures.fits;
   reads = reads_then c.args.host.now c.loop-queued.host c.walk_inode.new.host c.loop-queued.invariant.reads c.walk_inode.ensures.reads;
-  faults = omega (arith, c.loop-queued.invariant.faults, c.walk_inode.ensures.cause.later);
+  faults = search (rules, c.walk_inode.ensures.cause.kept, c.loop-queued.invariant.faults);
 }
 
 pub returns-in_err-walk_inode-clause-walked : goal.returns-in_err-walk_inode-clause-walked

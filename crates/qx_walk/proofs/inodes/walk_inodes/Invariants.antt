@@ -1,4 +1,4 @@
-use Rattle.std.proofs.Common.{◌≡◌, ◌≤◌, ◌-◌}
+use Rattle.std.proofs.Common.{◌≡◌, ◌-◌}
 use Rattle.qx_blockset.specs.Members.{limit_of}
 use Rattle.qx_nodes.specs.BlockMap.{BlockMap}
 use Rattle.qx_view.specs.Images.{Roots}
@@ -17,7 +17,7 @@ invariant-loop-queued g l = record {
   listing : IsListing (places_of l.ground.table) l.seen.listing;
   fits : Fits g.D.Dev.extent l.ground.shape l.host;
   reads : JustReads g.D.Dev.tells g.D.Dev.history g.D.Dev.attached g.D.Dev.con_faults l.fn.host l.host;
-  faults : g.D.Dev.dev_faults l.fn.host ≤ g.D.Dev.dev_faults l.host;
+  faults : g.D.Dev.dev_faults l.host ≡ g.D.Dev.dev_faults l.fn.host;
 }
 
 -- the places less the inodes that were taken

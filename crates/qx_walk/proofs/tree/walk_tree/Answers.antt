@@ -1,4 +1,4 @@
-use Rattle.std.proofs.Common.{◌-◌, [], refl, ◌∙◌, ap, arith}
+use Rattle.std.proofs.Common.{rules, ◌-◌, [], refl, ◌∙◌, ap, arith}
 use Rattle.std.proofs.lemmas.Result.{err_from_is_err_and}
 use Rattle.qx_blockset.specs.Members.{Members, has}
 use Rattle.qx_pointers.proofs.ShownBlocks.{shown_size, shows_before}
@@ -59,7 +59,7 @@ returns-in_err-test_top-clause-answer g c = λ m s.
 pub returns-in_err-test_top-clause-cause : goal.returns-in_err-test_top-clause-cause
 returns-in_err-test_top-clause-cause g c =
     let p = err_from_is_err_and c.from_residual-in_err-test_top.result c.from_residual-in_err-test_top.ensures.1 in
-    rw (p.1, p.2) (caused_by_test _ _ c.in_err-test_top.field-0.0 (omega (arith, c.walk_node.ensures.cause.later, c.read.ensures.cause.later, c.walk_node-2.ensures.cause.later, c.walk_node-3.ensures.cause.later)) c.in_err-test_top.ensures.cause)
+    rw (p.1, p.2) (caused_by_test _ _ c.in_err-test_top.field-0.0 (search (rules, c.walk_node.ensures.cause.kept, c.read.ensures.cause.kept, c.walk_node-2.ensures.cause.kept, c.walk_node-3.ensures.cause.kept)) c.in_err-test_top.ensures.cause)
 
 pub returns-in_err-walk_inodes-clause-answer : goal.returns-in_err-walk_inodes-clause-answer
 returns-in_err-walk_inodes-clause-answer g c = λ m s.

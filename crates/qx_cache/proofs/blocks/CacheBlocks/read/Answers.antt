@@ -1,4 +1,4 @@
-use Rattle.std.proofs.Common.{◌≡◌, refl, sym, subst, ap, ◌∙◌}
+use Rattle.std.proofs.Common.{rules, ◌≡◌, refl, sym, subst, ap, ◌∙◌}
 use Rattle.std.specs.Prelude.{IfSome}
 use Rattle.qx_outside.specs.Trail.{bytes_of}
 use Rattle.std.specs.FinMap.{get}
@@ -29,7 +29,7 @@ returns g c =
         (
           subst (λ w. Keeps (state_of g.H.Dev.tells g.H.Dev.history old) (state_of g.H.Dev.tells g.H.Dev.history w)) (sym whole) (keeps-read g.H.Dev.tells g.H.Dev.history old new.host kept idles),
           ap (aside_of g.H.Dev.attached g.H.Dev.con_faults) whole ∙ same-aside g.H.Dev.attached g.H.Dev.con_faults old new.host kept c.in_ok-bring.ensures.others.paths c.in_ok-bring.ensures.others.console,
-          record { later = c.in_ok-bring.ensures.cause.later; device = tt },
+          record { later = c.in_ok-bring.ensures.cause.later; device = tt; kept = λ _. search (rules, c.in_ok-bring.ensures.cause.kept) },
           λ told. c.at_hand.ensures.told told
               ∙ ap (λ w. bytes_over (bytes_of (g.H.Dev.history new.host)) w c.args.b) whole
               ∙ ap (λ h. bytes_over (bytes_of h) old c.args.b) (idles.step told),

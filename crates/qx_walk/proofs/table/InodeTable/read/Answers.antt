@@ -1,4 +1,4 @@
-use Rattle.std.proofs.Common.{◌≡◌, ◌≢◌, ℕ, List, [], ◌∷◌, ◌++◌, ◌*◌, ◌+◌, ◌<◌, length, drop, replicate, take, get_or, refl, sym, ◌∙◌, ap, subst, arith}
+use Rattle.std.proofs.Common.{rules, ◌≡◌, ◌≢◌, ℕ, List, [], ◌∷◌, ◌++◌, ◌*◌, ◌+◌, ◌<◌, length, drop, replicate, take, get_or, refl, sym, ◌∙◌, ap, subst, arith}
 use Rattle.std.specs.Prelude.{true}
 use Rattle.std.proofs.lemmas.List.{length-replicate, take_all, take_at, take_more}
 use Rattle.qx_geom.proofs.BlockSizes.{BlockSizeBounds, block_size-bounds}
@@ -23,7 +23,7 @@ loop-leaf-init g c =
       long = ap (λ (l : List ℕ). length l) zeros ∙ length-replicate (c.div_ceil-count.result * c.args.shape.blocksize) 0;
       fits = c.requires.fits;
       reads = reads_none _;
-      faults = omega arith;
+      faults = search rules;
     }
 
 pub loop-leaf-preserved : goal.loop-leaf-preserved
@@ -52,7 +52,7 @@ loop-leaf-preserved g c =
       long = ap (λ (l : List ℕ). length l) written ∙ long ∙ c.loop-leaf.invariant.long;
       fits = c.in_ok-read_leaf.ensures.fits;
       reads = reads_then _ _ _ c.loop-leaf.invariant.reads c.in_ok-read_leaf.ensures.reads;
-      faults = omega (arith, c.loop-leaf.invariant.faults, c.in_ok-read_leaf.ensures.cause.later);
+      faults = search (rules, c.in_ok-read_leaf.ensures.cause.kept, c.loop-leaf.invariant.faults);
     }
 
 pub returns-clause-holds : goal.returns-clause-holds

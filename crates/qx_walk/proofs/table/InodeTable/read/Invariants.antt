@@ -13,5 +13,5 @@ invariant-loop-leaf g l = record {
   long : length l.bytes.items ≡ l.count * l.fn.shape.blocksize;
   fits : Fits g.D.Dev.extent l.fn.shape l.host;
   reads : JustReads g.D.Dev.tells g.D.Dev.history g.D.Dev.attached g.D.Dev.con_faults l.fn.host l.host;
-  faults : g.D.Dev.dev_faults l.fn.host ≤ g.D.Dev.dev_faults l.host;
+  faults : g.D.Dev.dev_faults l.host ≡ g.D.Dev.dev_faults l.fn.host;
 }
