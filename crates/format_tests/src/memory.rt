@@ -2,7 +2,7 @@
 ghost use Rattle.std.specs.Prelude.{◌≡◌, ◌≤◌, Some, IfOk, IfSome};
 ghost use Rattle.qx_outside.specs.Memory.{extent_of};
 
-use qx_outside::{ByteList, Dev, Event, Failed, Host, MemHost};
+use qx_outside::{ByteList, Dev, Event, Failed, Host, MemHost, Recorded};
 use std::alloc::Global;
 use std::test::Fail;
 
@@ -58,7 +58,7 @@ fn two_writes<D: Dev>(device: &mut D) -> Result<(bool, bool, [u8; 4]), Failed>
 type Moment = Result<u32, Failed>;
 
 /// What four calls answer, and the events that there are then.
-fn four_calls<H: Host>(
+fn four_calls<H: Host + Recorded>(
     host: &mut H,
 ) -> (Moment, Moment, Result<(), Failed>, Result<u64, Failed>, u64) {
     let moments = (host.now(), host.now());
@@ -68,7 +68,9 @@ fn four_calls<H: Host>(
 }
 
 /// What the clock answers four times, with a sync before the last; what the sync answers, and the events that there are then.
-fn five_calls<H: Host>(host: &mut H) -> (Moment, Moment, Moment, Moment, Result<(), Failed>, u64) {
+fn five_calls<H: Host + Recorded>(
+    host: &mut H,
+) -> (Moment, Moment, Moment, Moment, Result<(), Failed>, u64) {
     let moments = (host.now(), host.now(), host.now());
     let synced = host.sync();
     let last = host.now();

@@ -11,7 +11,7 @@ mod volumes;
 
 use qx_fields::{Order, put16, put32, put64};
 use qx_geom::{ABSENT, Which};
-use qx_outside::{Dev, Event, Host, MemHost};
+use qx_outside::{Dev, Event, Host, MemHost, Recorded};
 use qx_super::{MAGIC, checksum};
 use qx_top::run;
 use std::alloc::Global;

@@ -4,7 +4,7 @@ ghost use Rattle.std.proofs.lemmas.Bool.{false≢true};
 ghost use Rattle.qx_outside.specs.Causes.{HasCause};
 ghost use Rattle.qx_outside.specs.Trail.{History};
 
-use qx_outside::{Dev, Failed, Host};
+use qx_outside::{Dev, Failed, Host, Recorded};
 use std::fs::{File, OpenOptions};
 use std::io;
 use std::io::{ErrorKind, Read, Seek, SeekFrom};
@@ -90,11 +90,13 @@ impl Dev for RealHost {
         counted(done, &mut self.dev_faults)
     }
 
+    ghost extent_is = { λ s told. absurd (false≢true told) };
+}
+
+impl Recorded for RealHost {
     fn events(&self) -> u64 {
         0
     }
-
-    ghost extent_is = { λ s told. absurd (false≢true told) };
 }
 
 impl Host for RealHost {

@@ -8,7 +8,7 @@ ghost use Rattle.qx_outside.specs.Calls.{Did, MayDo, Idles, Writes, FailsToWrite
 
 use crate::Failed;
 
-/// A device. Each call is an outside call, but for `events`: it may fail, and then the count of device faults rose.
+/// A device. Each call is an outside call: it may fail, and then the count of device faults rose.
 pub trait Dev {
     /// Whether the object tells its history. A real file does not.
     ghost tells: { Self → Bool };
@@ -84,10 +84,6 @@ pub trait Dev {
         ensures step { Syncs tells history self.old self.new }
         ensures others { LeavesRest extent attached dev_reads con_faults self.old self.new }
         ensures cause { HasCause (dev_faults self.old) (dev_faults self.new) result };
-
-    /// How many events the trail has, where it is told. This is no outside call.
-    fn events(&self) -> u64
-        ensures { IsTrue (tells self.now) → result ≡ length (history self.now).deeds };
 
     /// Where the history is told, the length is told too, and is that of the bytes.
     ghost extent_is: { (s : Self) → IsTrue (tells s) → extent s ≡ Option.Some (length (bytes_of (history s))) };

@@ -13,6 +13,7 @@ mod event;
 mod laws;
 mod log;
 mod memory;
+mod recorded;
 mod schedule;
 
 pub use bytes::ByteList;
@@ -24,3 +25,4 @@ pub use laws::{
     what_an_image_has_while_bytes_are_put,
 };
 pub use memory::MemHost;
+pub use recorded::Recorded;

@@ -4,7 +4,7 @@ use super::{asked, device_of, host_over, made_on, made_over, part, put};
 use qx_fields::Order::{Big, Little};
 use qx_geom::Which;
 use qx_make::MakeFault;
-use qx_outside::{Dev, Event, Failed};
+use qx_outside::{Dev, Event, Failed, Recorded};
 use qx_super::{Pick, areas};
 use std::alloc::Global;
 use std::test::Fail;

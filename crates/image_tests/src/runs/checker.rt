@@ -5,7 +5,7 @@ use super::{changed, ran, ran_in_room};
 use crate::maker::made_over;
 use qx_fields::Order;
 use qx_make::MakeOptions;
-use qx_outside::Dev;
+use qx_outside::Recorded;
 use std::alloc::Global;
 use std::test::Fail;
 

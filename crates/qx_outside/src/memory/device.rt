@@ -9,7 +9,7 @@ ghost use Rattle.qx_outside.specs.Calls.{Did, MayDo, Idles, Writes, FailsToWrite
 use super::MemHost;
 use crate::log::{copy_of, joined, read_from};
 use crate::schedule::{Fate, fault};
-use crate::{Dev, Event, Failed};
+use crate::{Dev, Event, Failed, Recorded};
 
 impl Dev for MemHost {
     ghost use Rattle.qx_outside.specs.Memory.{all_told, history_of, extent_of, attached_of, reads_of, dev_faults_of, con_faults_of, setup_of, next_fate, counted, GoesBy, half_left};
@@ -188,9 +188,11 @@ impl Dev for MemHost {
         }
     }
 
+    ghost extent_is = { λ s _. ap (λ xs. Some (length xs)) s.in_step };
+}
+
+impl Recorded for MemHost {
     fn events(&self) -> u64 {
         self.log.trail.len() as u64
     }
-
-    ghost extent_is = { λ s _. ap (λ xs. Some (length xs)) s.in_step };
 }
