@@ -88,6 +88,7 @@ fn calls_succeed_with_memory_and_room(rt: HostRuntime) -> Result<(), Fail> {
     assert_eq!(rt; host.bytes(), [1, 2, 3, 4, 5, 6, 0, 0].as_slice());
     assert_eq!(rt; host.events(), 5);
     assert!(rt; is_of_each_call(host.trail()));
+    assert!(rt; !host.lacked());
     Ok(())
 }
 
@@ -95,7 +96,7 @@ fn calls_succeed_with_memory_and_room(rt: HostRuntime) -> Result<(), Fail> {
 fn a_failed_write_leaves_the_first_half(rt: HostRuntime) -> Result<(), Fail> {
     let mut host = host_of(rt.alloc(), &[1], 100)?;
     assert_eq!(rt; two_writes(&mut host), Ok((true, false, [7, 8, 3, 4])));
-    assert_eq!(rt; host.reads(), 1);
+    assert_eq!(rt; (host.reads(), host.lacked()), (1, false));
     Ok(())
 }
 

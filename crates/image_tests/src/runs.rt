@@ -11,10 +11,10 @@ mod volumes;
 
 use qx_fields::{Order, put16, put32, put64};
 use qx_geom::{ABSENT, Which};
-use qx_outside::{Dev, Event, Host, MemHost, Recorded};
+use qx_outside::{Event, Host, MemHost, Recorded};
 use qx_super::{MAGIC, checksum};
 use qx_top::run;
-use std::alloc::Global;
+use std::alloc::{AllocError, Global};
 use std::test::Fail;
 
 const SUPERS: [&str; 3] = ["chkqnx6fs", "-s", "x"];
@@ -151,7 +151,12 @@ fn ran_in_room(
     let mut moments = Vec::new(alloc);
     moments.push(1000)?;
     let host = MemHost::new(alloc, device, Vec::new(alloc), moments, failing, room)?;
-    Ok(ran_over(alloc, &words, host))
+    let (status, host) = ran_over(alloc, &words, host);
+    // Else a call may have failed that isn't named.
+    if host.lacked() {
+        return Err(AllocError.into());
+    }
+    Ok((status, host))
 }
 
 /// The same with ample room, and what is left.

@@ -38,6 +38,10 @@ dev_faults_of h = h.dev_faults
 abbrev pub con_faults_of : MemHost → ℕ
 con_faults_of h = h.con_faults
 
+-- whether a copy of its own found no memory so far
+abbrev pub lacked_of : MemHost → Bool
+lacked_of h = h.lacked
+
 -- ---- by which rules it goes
 
 -- what is to come: the numbers of calls that fail, how many calls there were, the room for events, the input that is left, the moments, and how many of them were told
@@ -82,9 +86,8 @@ abbrev pub after_any : Option Deed → History → History
 after_any None h = h
 after_any (Some deed) h = after deed h
 
--- what a call does by its fate: it is done with one deed, or fails with another; for want of room or of memory it fails with none
+-- what a call does by its fate: it is done with one deed, or fails with another; for want of room it fails with none
 abbrev pub GoesBy : Fate → Bool → Option Deed → Option Deed → History → History → Type 0
 GoesBy NoRoom good deed failed old new = (good ≡ false) × (new ≡ old)
-GoesBy Bad good deed failed old new = (good ≡ false) × ((new ≡ old) ⊎ (new ≡ after_any failed old))
-GoesBy Good true deed failed old new = new ≡ after_any deed old
-GoesBy Good false deed failed old new = new ≡ old
+GoesBy Bad good deed failed old new = (good ≡ false) × (new ≡ after_any failed old)
+GoesBy Good good deed failed old new = (good ≡ true) × (new ≡ after_any deed old)

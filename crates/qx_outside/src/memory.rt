@@ -1,5 +1,5 @@
 //! A host in memory, for tests: it fails where it is told to, and tells everything.
-ghost use Rattle.std.specs.Prelude.{◌≡◌, ◌≤◌, [], length, reverse, nat_le, Some, IfOk, IfSome};
+ghost use Rattle.std.specs.Prelude.{◌≡◌, ◌≤◌, [], length, reverse, nat_le, false, Some, IfOk, IfSome};
 ghost use Rattle.qx_outside.specs.Trail.{device_bytes, deeds_of, bytes_of, trail_of, output};
 
 mod console;
@@ -13,6 +13,7 @@ use std::alloc::{AllocError, Global};
 /// A host in memory. Its calls are numbered from 0 over all methods of both traits.
 /// A call fails where its number is on the list, where its number is 2^64 - 1, where the trail has as many events as it has room for, or where its own copy finds no memory.
 /// For want of room or of memory it fails with no event and changes no byte; else a failed write or put leaves the first half of its bytes, rounded down.
+/// That it found no memory is noted (`lacked`), so that a test can rule it out.
 #[derive(Drop)]
 pub struct MemHost {
     alloc: Global,
@@ -28,12 +29,14 @@ pub struct MemHost {
     room: usize,
     dev_faults: u64,
     con_faults: u64,
+    // Whether a copy of its own found no memory.
+    lacked: bool,
     ghost in_step: { bytes.items ≡ device_bytes start.items (deeds_of (reverse log.trail.items) (reverse log.asked.items)) },
     ghost taken_bound: { taken ≤ length input.items },
 }
 
 impl MemHost {
-    ghost use Rattle.qx_outside.specs.Memory.{history_of, setup_of, extent_of, attached_of, reads_of, dev_faults_of, con_faults_of};
+    ghost use Rattle.qx_outside.specs.Memory.{history_of, setup_of, extent_of, attached_of, reads_of, dev_faults_of, con_faults_of, lacked_of};
 
     /// A host over a device of these bytes, with this input. The k-th asking of the clock gives the k-th moment, then the last one again, or 0 where there is none.
     /// `failing` has the numbers of calls that fail, and `room` is how many events the trail can have.
@@ -51,6 +54,7 @@ impl MemHost {
         ensures attached { IfOk result (λ h. attached_of h ≡ Some []) }
         ensures reads { IfOk result (λ h. reads_of h ≡ Some 0) }
         ensures faults { IfOk result (λ h. (dev_faults_of h ≡ 0) × (con_faults_of h ≡ 0)) }
+        ensures memory { IfOk result (λ h. lacked_of h ≡ false) }
     {
         let start = bytes.as_slice().to_vec(alloc)?;
         Ok(MemHost {
@@ -67,6 +71,7 @@ impl MemHost {
             room,
             dev_faults: 0,
             con_faults: 0,
+            lacked: false,
         })
     }
 
@@ -97,6 +102,13 @@ impl MemHost {
         ensures { reads_of self.now ≡ Some result }
     {
         self.schedule.reads
+    }
+
+    /// Whether a copy of its own found no memory. Once it did, what a call leaves is no longer what the list of failing calls says.
+    pub fn lacked(&self) -> bool
+        ensures { result ≡ lacked_of self.now }
+    {
+        self.lacked
     }
 
     /// All bytes that were put.

@@ -1,5 +1,5 @@
 //! Which calls of a host in memory fail.
-ghost use Rattle.std.specs.Prelude.{◌≡◌, ◌+◌, ◌-◌, ◌<◌, ◌≤◌, ◌^◌, min, IsErr};
+ghost use Rattle.std.specs.Prelude.{◌≡◌, ◌+◌, ◌-◌, ◌<◌, ◌≤◌, ◌^◌, min, true, IsErr};
 ghost use Rattle.qx_outside.specs.Causes.{HasCause};
 
 use crate::Failed;
@@ -73,4 +73,14 @@ pub fn fault<T>(count: &mut u64) -> Result<T, Failed>
 {
     *count = count.saturating_add(1);
     Err(Failed)
+}
+
+/// Raises a count of faults for want of memory, and notes that.
+pub fn lack<T>(lacked: &mut bool, count: &mut u64) -> Result<T, Failed>
+    ensures result { IsErr result }
+    ensures lacked { lacked.new ≡ true }
+    ensures cause { HasCause count.old count.new result }
+{
+    *lacked = true;
+    fault(count)
 }

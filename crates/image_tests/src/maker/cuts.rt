@@ -128,7 +128,12 @@ fn a_failed_call_is_a_device_fault_and_leaves_no_volume_or_a_whole_one(
         for call in 0..calls {
             let mut host = host_over(alloc, &old, &[call])?;
             let answer = made_on(&mut host, &options);
-            assert_eq!(rt; answer, Err(MakeFault::Device), "{name}: {call}");
+            let lacked = host.lacked();
+            assert_eq!(rt;
+                (answer, lacked),
+                (Err(MakeFault::Device), false),
+                "{name}: {call}"
+            );
             let left = course.left_on(host.bytes())?;
             assert_eq!(rt; left, wanted(call, to_old, to_nothing), "{name}: {call}");
         }
@@ -151,7 +156,7 @@ fn a_cut_after_any_event_leaves_no_volume_or_a_whole_one(rt: HostRuntime) -> Res
     {
         let mut host = host_over(alloc, &old, &[])?;
         made_on(&mut host, &options)?;
-        assert_eq!(rt; host.events(), events, "{name}");
+        assert_eq!(rt; (host.events(), host.lacked()), (events, false), "{name}");
         let course = Course {
             alloc,
             old: &old,

@@ -1,16 +1,16 @@
 //! The console and the clock of a host in memory.
-ghost use Rattle.std.specs.Prelude.{◌≡◌, ◌+◌, ◌<◌, ◌≤◌, ◌/◌, ◌++◌, length, min, take, drop, Some, None, IfOk, OnOk, OnErr, is_ok};
+ghost use Rattle.std.specs.Prelude.{◌≡◌, ◌+◌, ◌<◌, ◌≤◌, ◌/◌, ◌++◌, length, min, take, drop, false, Some, None, IfOk, OnOk, OnErr, is_ok};
 ghost use Rattle.qx_outside.specs.Causes.{HasCause};
 ghost use Rattle.qx_outside.specs.Trail.{took, gave, told_moment};
 ghost use Rattle.qx_outside.specs.Calls.{Did, Idles, FailsToGive, Converses, LeavesDevice};
 
 use super::MemHost;
 use crate::log::copy_of;
-use crate::schedule::{Fate, fault};
+use crate::schedule::{Fate, fault, lack};
 use crate::{Event, Failed, Host};
 
 impl Host for MemHost {
-    ghost use Rattle.qx_outside.specs.Memory.{all_told, history_of, extent_of, attached_of, reads_of, dev_faults_of, con_faults_of, setup_of, next_fate, counted, taken_off, asked_again, moment_at, GoesBy};
+    ghost use Rattle.qx_outside.specs.Memory.{all_told, history_of, extent_of, attached_of, reads_of, dev_faults_of, con_faults_of, setup_of, lacked_of, next_fate, counted, taken_off, asked_again, moment_at, GoesBy};
 
     fn take(&mut self, into: &mut [u8]) -> Result<usize, Failed>
         requires { 0 < length into.old }
@@ -22,7 +22,7 @@ impl Host for MemHost {
         ensures cause { HasCause (con_faults_of self.old) (con_faults_of self.new) result }
         ensures most { IfOk result (λ n. n ≡ min (length (setup_of self.old).input) (length into.old)) }
         ensures bytes { IfOk result (λ n. into.new ≡ take n (setup_of self.old).input ++ drop n into.old) }
-        ensures rule { GoesBy (next_fate self.old) (is_ok result) (Some (took (take (min (length (setup_of self.old).input) (length into.old)) (setup_of self.old).input))) None (history_of self.old) (history_of self.new) }
+        ensures rule { lacked_of self.new ≡ false → (lacked_of self.old ≡ false) × GoesBy (next_fate self.old) (is_ok result) (Some (took (take (min (length (setup_of self.old).input) (length into.old)) (setup_of self.old).input))) None (history_of self.old) (history_of self.new) }
         ensures setup { IfOk result (λ n. setup_of self.new ≡ taken_off n (setup_of self.old)) }
         ensures setup_err { OnErr result (setup_of self.new ≡ counted (setup_of self.old)) }
     {
@@ -32,10 +32,10 @@ impl Host for MemHost {
                 let rest = &self.input[self.taken..];
                 let count = rest.len().min(into.len());
                 let Ok(taken) = copy_of(self.alloc, &rest[..count]) else {
-                    return fault(&mut self.con_faults);
+                    return lack(&mut self.lacked, &mut self.con_faults);
                 };
                 if self.log.add(Event::Took(taken)).is_err() {
-                    return fault(&mut self.con_faults);
+                    return lack(&mut self.lacked, &mut self.con_faults);
                 }
                 into[..count].copy_from_slice(&self.input[self.taken..self.taken + count]);
                 self.taken += count;
@@ -51,7 +51,7 @@ impl Host for MemHost {
         ensures step { Converses all_told history_of self.old self.new }
         ensures others { LeavesDevice extent_of attached_of reads_of dev_faults_of self.old self.new }
         ensures cause { HasCause (con_faults_of self.old) (con_faults_of self.new) result }
-        ensures rule { GoesBy (next_fate self.old) (is_ok result) (Some (gave bytes.now)) (Some (gave (take (length bytes.now / 2) bytes.now))) (history_of self.old) (history_of self.new) }
+        ensures rule { lacked_of self.new ≡ false → (lacked_of self.old ≡ false) × GoesBy (next_fate self.old) (is_ok result) (Some (gave bytes.now)) (Some (gave (take (length bytes.now / 2) bytes.now))) (history_of self.old) (history_of self.new) }
         ensures setup { setup_of self.new ≡ counted (setup_of self.old) }
     {
         let full = self.is_full();
@@ -61,10 +61,10 @@ impl Host for MemHost {
             Fate::Good => (true, bytes.len()),
         };
         let Ok(given) = copy_of(self.alloc, &bytes[..kept]) else {
-            return fault(&mut self.con_faults);
+            return lack(&mut self.lacked, &mut self.con_faults);
         };
         if self.log.add(Event::Gave(given)).is_err() {
-            return fault(&mut self.con_faults);
+            return lack(&mut self.lacked, &mut self.con_faults);
         }
         if ok {
             Ok(())
@@ -79,7 +79,7 @@ impl Host for MemHost {
         ensures step { Converses all_told history_of self.old self.new }
         ensures others { LeavesDevice extent_of attached_of reads_of dev_faults_of self.old self.new }
         ensures cause { HasCause (con_faults_of self.old) (con_faults_of self.new) result }
-        ensures rule { GoesBy (next_fate self.old) (is_ok result) (Some (told_moment (moment_at (setup_of self.old)))) None (history_of self.old) (history_of self.new) }
+        ensures rule { lacked_of self.new ≡ false → (lacked_of self.old ≡ false) × GoesBy (next_fate self.old) (is_ok result) (Some (told_moment (moment_at (setup_of self.old)))) None (history_of self.old) (history_of self.new) }
         ensures setup { OnOk result (setup_of self.new ≡ asked_again (setup_of self.old)) }
         ensures setup_err { OnErr result (setup_of self.new ≡ counted (setup_of self.old)) }
     {
@@ -91,7 +91,7 @@ impl Host for MemHost {
                     None => self.moments.last().copied().unwrap_or(0),
                 };
                 if self.log.add(Event::Now(moment)).is_err() {
-                    return fault(&mut self.con_faults);
+                    return lack(&mut self.lacked, &mut self.con_faults);
                 }
                 self.moments_told = self.moments_told.saturating_add(1);
                 Ok(moment)

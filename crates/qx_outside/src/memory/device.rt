@@ -8,11 +8,11 @@ ghost use Rattle.qx_outside.specs.Calls.{Did, MayDo, Idles, Writes, FailsToWrite
 
 use super::MemHost;
 use crate::log::{copy_of, joined, read_from};
-use crate::schedule::{Fate, fault};
+use crate::schedule::{Fate, fault, lack};
 use crate::{Dev, Event, Failed, Recorded};
 
 impl Dev for MemHost {
-    ghost use Rattle.qx_outside.specs.Memory.{all_told, history_of, extent_of, attached_of, reads_of, dev_faults_of, con_faults_of, setup_of, next_fate, counted, GoesBy, half_left};
+    ghost use Rattle.qx_outside.specs.Memory.{all_told, history_of, extent_of, attached_of, reads_of, dev_faults_of, con_faults_of, setup_of, lacked_of, next_fate, counted, GoesBy, half_left};
 
     ghost tells = { all_told };
 
@@ -31,26 +31,26 @@ impl Dev for MemHost {
     fn attach(&mut self, path: &str, create: bool) -> Result<(), Failed>
         ensures step { Idles all_told history_of self.old self.new }
         ensures attached { Becomes (attached_of self.old) (attached_of self.new) (λ old new. new ≡ record { path = path.now; create = create } ∷ old) }
-        ensures kept { OnOk result (attached_of self.new ≡ option_map (λ old. record { path = path.now; create = create } ∷ old) (attached_of self.old)) }
+        ensures kept { lacked_of self.new ≡ false → attached_of self.new ≡ option_map (λ old. record { path = path.now; create = create } ∷ old) (attached_of self.old) }
         ensures reads { reads_of self.new ≡ reads_of self.old }
         ensures console { con_faults_of self.new ≡ con_faults_of self.old }
         ensures cause { HasCause (dev_faults_of self.old) (dev_faults_of self.new) result }
-        ensures rule { GoesBy (next_fate self.old) (is_ok result) None None (history_of self.old) (history_of self.new) }
+        ensures rule { lacked_of self.new ≡ false → (lacked_of self.old ≡ false) × GoesBy (next_fate self.old) (is_ok result) None None (history_of self.old) (history_of self.new) }
         ensures setup { setup_of self.new ≡ counted (setup_of self.old) }
     {
         let kept = match &mut self.attached {
             Some(paths) => paths.add(self.alloc, path.as_bytes(), create).is_ok(),
-            None => false,
+            None => true,
         };
-        if !kept {
-            self.attached = None;
-        }
         let full = self.is_full();
         let fate = self.schedule.next(full);
-        if kept && fate == Fate::Good {
-            Ok(())
-        } else {
-            fault(&mut self.dev_faults)
+        if !kept {
+            self.attached = None;
+            return lack(&mut self.lacked, &mut self.dev_faults);
+        }
+        match fate {
+            Fate::Good => Ok(()),
+            _ => fault(&mut self.dev_faults),
         }
     }
 
@@ -59,7 +59,7 @@ impl Dev for MemHost {
         ensures step { Idles all_told history_of self.old self.new }
         ensures others { LeavesRest extent_of attached_of reads_of con_faults_of self.old self.new }
         ensures cause { HasCause (dev_faults_of self.old) (dev_faults_of self.new) result }
-        ensures rule { GoesBy (next_fate self.old) (is_ok result) None None (history_of self.old) (history_of self.new) }
+        ensures rule { lacked_of self.new ≡ false → (lacked_of self.old ≡ false) × GoesBy (next_fate self.old) (is_ok result) None None (history_of self.old) (history_of self.new) }
         ensures good { next_fate self.old ≡ Fate.Good → IsOk result }
         ensures setup { setup_of self.new ≡ counted (setup_of self.old) }
     {
@@ -79,24 +79,24 @@ impl Dev for MemHost {
         ensures reads { reads_of self.new ≡ reads_of self.old }
         ensures others { LeavesConsole attached_of con_faults_of self.old self.new }
         ensures cause { HasCause (dev_faults_of self.old) (dev_faults_of self.new) result }
-        ensures rule { GoesBy (next_fate self.old) (is_ok result) (Some (sized len true)) (Some (sized len false)) (history_of self.old) (history_of self.new) }
+        ensures rule { lacked_of self.new ≡ false → (lacked_of self.old ≡ false) × GoesBy (next_fate self.old) (is_ok result) (Some (sized len true)) (Some (sized len false)) (history_of self.old) (history_of self.new) }
         ensures setup { setup_of self.new ≡ counted (setup_of self.old) }
     {
         let full = self.is_full();
         match self.schedule.next(full) {
             Fate::NoRoom => fault(&mut self.dev_faults),
-            Fate::Bad => {
-                let _ = self.log.add(Event::Sized { len, ok: false });
-                fault(&mut self.dev_faults)
-            }
+            Fate::Bad => match self.log.add(Event::Sized { len, ok: false }) {
+                Ok(()) => fault(&mut self.dev_faults),
+                Err(_) => lack(&mut self.lacked, &mut self.dev_faults),
+            },
             Fate::Good => {
                 let wanted = len as usize;
                 let now = self.bytes.len();
                 if wanted > now && self.bytes.reserve_exact(wanted - now).is_err() {
-                    return fault(&mut self.dev_faults);
+                    return lack(&mut self.lacked, &mut self.dev_faults);
                 }
                 if self.log.add(Event::Sized { len, ok: true }).is_err() {
-                    return fault(&mut self.dev_faults);
+                    return lack(&mut self.lacked, &mut self.dev_faults);
                 }
                 let _ = self.bytes.resize(wanted, 0);
                 Ok(())
@@ -113,7 +113,7 @@ impl Dev for MemHost {
         ensures reads_err { OnErr result (reads_of self.new ≡ reads_of self.old) }
         ensures others { LeavesConsole attached_of con_faults_of self.old self.new }
         ensures cause { HasCause (dev_faults_of self.old) (dev_faults_of self.new) result }
-        ensures rule { GoesBy (next_fate self.old) (is_ok result) None None (history_of self.old) (history_of self.new) }
+        ensures rule { lacked_of self.new ≡ false → (lacked_of self.old ≡ false) × GoesBy (next_fate self.old) (is_ok result) None None (history_of self.old) (history_of self.new) }
         ensures good { next_fate self.old ≡ Fate.Good → IsOk result }
         ensures setup { setup_of self.new ≡ counted (setup_of self.old) }
     {
@@ -135,7 +135,7 @@ impl Dev for MemHost {
         ensures step { Writes all_told history_of at bytes.now self.old self.new }
         ensures others { LeavesRest extent_of attached_of reads_of con_faults_of self.old self.new }
         ensures cause { HasCause (dev_faults_of self.old) (dev_faults_of self.new) result }
-        ensures rule { GoesBy (next_fate self.old) (is_ok result) (Some (wrote at bytes.now bytes.now true)) (Some (wrote at bytes.now (half_left (bytes_of (history_of self.old)) at bytes.now) false)) (history_of self.old) (history_of self.new) }
+        ensures rule { lacked_of self.new ≡ false → (lacked_of self.old ≡ false) × GoesBy (next_fate self.old) (is_ok result) (Some (wrote at bytes.now bytes.now true)) (Some (wrote at bytes.now (half_left (bytes_of (history_of self.old)) at bytes.now) false)) (history_of self.old) (history_of self.new) }
         ensures setup { setup_of self.new ≡ counted (setup_of self.old) }
     {
         let full = self.is_full();
@@ -146,17 +146,17 @@ impl Dev for MemHost {
         };
         let at = at as usize;
         let Ok(left) = joined(self.alloc, bytes, &self.bytes[at..], kept) else {
-            return fault(&mut self.dev_faults);
+            return lack(&mut self.lacked, &mut self.dev_faults);
         };
         let Ok(asked) = copy_of(self.alloc, bytes) else {
-            return fault(&mut self.dev_faults);
+            return lack(&mut self.lacked, &mut self.dev_faults);
         };
         if self
             .log
             .write(&mut self.bytes, at, left, ok, asked)
             .is_err()
         {
-            return fault(&mut self.dev_faults);
+            return lack(&mut self.lacked, &mut self.dev_faults);
         }
         if ok {
             Ok(())
@@ -171,19 +171,19 @@ impl Dev for MemHost {
         ensures step { Syncs all_told history_of self.old self.new }
         ensures others { LeavesRest extent_of attached_of reads_of con_faults_of self.old self.new }
         ensures cause { HasCause (dev_faults_of self.old) (dev_faults_of self.new) result }
-        ensures rule { GoesBy (next_fate self.old) (is_ok result) (Some (synced true)) (Some (synced false)) (history_of self.old) (history_of self.new) }
+        ensures rule { lacked_of self.new ≡ false → (lacked_of self.old ≡ false) × GoesBy (next_fate self.old) (is_ok result) (Some (synced true)) (Some (synced false)) (history_of self.old) (history_of self.new) }
         ensures setup { setup_of self.new ≡ counted (setup_of self.old) }
     {
         let full = self.is_full();
         match self.schedule.next(full) {
             Fate::NoRoom => fault(&mut self.dev_faults),
-            Fate::Bad => {
-                let _ = self.log.add(Event::Synced { ok: false });
-                fault(&mut self.dev_faults)
-            }
+            Fate::Bad => match self.log.add(Event::Synced { ok: false }) {
+                Ok(()) => fault(&mut self.dev_faults),
+                Err(_) => lack(&mut self.lacked, &mut self.dev_faults),
+            },
             Fate::Good => match self.log.add(Event::Synced { ok: true }) {
                 Ok(()) => Ok(()),
-                Err(_) => fault(&mut self.dev_faults),
+                Err(_) => lack(&mut self.lacked, &mut self.dev_faults),
             },
         }
     }
