@@ -19,16 +19,16 @@ use Rattle.qx_view.specs.Walk.{Taken, finding_of, first_failing, inode_mode, ino
 use Rattle.qx_walk.proofs.Underway.{IsUnderway, fails_there, goes_on, inodes_append, listed_are, met_all, none_failed, starts, walked_are}
 use Rattle.qx_pointers.specs.declared.halt.Halt.{Halt}
 use Rattle.qx_pointers.specs.declared.halt.Halt.TheVariants as halts
-use Rattle.qx_walk.specs.declared.listing.Queued.{Queued}
+use Rattle.qx_tables.specs.declared.listing.Queued.{Queued}
 use Rattle.qx_walk.specs.declared.notes.Notes.{Notes}
 use Rattle.qx_walk.specs.declared.seen.Seen.{Seen}
 use Rattle.qx_walk.specs.declared.way.Way.{Way}
 use Rattle.qx_pointers.specs.Halts.{HaltsAt}
 use Rattle.qx_walk.specs.Inodes.{Begins, Done, Ends, Remembers, WalksInode, done_above, numbers_of, taken_with, with_inode}
 use Rattle.qx_walk.specs.Rows.{begins_with_dots}
-use Rattle.qx_walk.specs.Tables.{HasListed, HoldsNames, pair_of}
+use Rattle.qx_tables.specs.Tables.{HasListed, HoldsNames, pair_of}
 use Rattle.qx_walk.specs.Trees.{IsNoted}
-use Rattle.qx_walk.proofs.KeptNames.{or_swap}
+use Rattle.qx_tables.proofs.KeptNames.{or_swap}
 
 -- ---- counts of long-name numbers
 

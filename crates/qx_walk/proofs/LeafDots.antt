@@ -16,13 +16,13 @@ use Rattle.qx_nodes.specs.Visits.{present_of}
 use Rattle.qx_records.specs.NameRecord.{raw_in}
 use Rattle.qx_view.specs.Images.{raw_of}
 use Rattle.qx_view.specs.Sound.{is_foreign_directory, is_short}
-use Rattle.qx_walk.proofs.LeafLists.{listed_number, numbers_present}
+use Rattle.qx_tables.proofs.LeafLists.{listed_number, numbers_present}
 use Rattle.qx_walk.proofs.LeafRecords.{leaf_record}
 use Rattle.qx_pointers.specs.declared.node.LeafPlace.{LeafPlace}
 use Rattle.qx_pointers.specs.declared.source.Shape.{Shape}
 use Rattle.qx_pointers.specs.Parts.{IsPlaced}
 use Rattle.qx_walk.specs.Rows.{begins_with_dots, dots_in}
-use Rattle.qx_walk.specs.Tables.{AreLeaves}
+use Rattle.qx_tables.specs.Tables.{AreLeaves}
 
 -- ---- the first leaf
 

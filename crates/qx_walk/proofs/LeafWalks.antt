@@ -11,7 +11,7 @@ use Rattle.qx_nodes.specs.BlockMap.{BlockMap}
 use Rattle.qx_nodes.specs.Leaves.{Block, leaf_of}
 use Rattle.qx_records.specs.NameRecord.{RawRecord, raw_in}
 use Rattle.qx_view.specs.Images.{Roots, leaf_records, present_records, raw_of, record_block}
-use Rattle.qx_walk.proofs.LeafLists.{numbers_present}
+use Rattle.qx_tables.proofs.LeafLists.{numbers_present}
 use Rattle.qx_walk.proofs.LeafRecords.{leaf_block, leaf_record}
 use Rattle.qx_walk.proofs.RowsInOrder.{walks_halts, walks_more, walks_one}
 use Rattle.qx_pointers.specs.declared.halt.Halt.{Halt}
@@ -20,7 +20,7 @@ use Rattle.qx_walk.specs.declared.seen.Directory.{Directory}
 use Rattle.qx_walk.specs.declared.seen.Seen.{Seen}
 use Rattle.qx_walk.specs.Kept.{Kept, with_records}
 use Rattle.qx_walk.specs.Rows.{WalksRecord, WalksThrough}
-use Rattle.qx_walk.specs.Tables.{AreLeaves}
+use Rattle.qx_tables.specs.Tables.{AreLeaves}
 
 -- ---- the records of a leaf
 

@@ -19,7 +19,7 @@ use Rattle.qx_walk.specs.declared.seen.Seen.{Seen}
 use Rattle.qx_pointers.specs.Halts.{HaltsAt}
 use Rattle.qx_walk.specs.Kept.{Kept, with_row}
 use Rattle.qx_walk.specs.Rows.{Holds, WalksRecord, WalksRow}
-use Rattle.qx_walk.specs.Tables.{HasListed, HasNames, HoldsNames}
+use Rattle.qx_tables.specs.Tables.{HasListed, HasNames, HoldsNames}
 
 -- the tests of a row, by what they say
 abbrev tests_by : Place → Bool → Bool → Bool → Bool → Bool → Bool → Bool → List Test

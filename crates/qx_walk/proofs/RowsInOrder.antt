@@ -16,14 +16,14 @@ use Rattle.qx_walk.proofs.KeptLists.{HaveSame, all_counted, all_listed, all_queu
 use Rattle.qx_outside.specs.Causes.{Rose}
 use Rattle.qx_pointers.specs.declared.halt.Halt.{Halt}
 use Rattle.qx_pointers.specs.declared.halt.Halt.TheVariants as halts
-use Rattle.qx_walk.specs.declared.listing.Listing.{Listing}
-use Rattle.qx_walk.specs.declared.long_names.LongNames.{LongNames}
+use Rattle.qx_tables.specs.declared.listing.Listing.{Listing}
+use Rattle.qx_tables.specs.declared.long_names.LongNames.{LongNames}
 use Rattle.qx_walk.specs.declared.seen.Directory.{Directory}
 use Rattle.qx_walk.specs.declared.seen.Seen.{Seen}
 use Rattle.qx_pointers.specs.Halts.{Answers, HaltsAt, IsCaused}
 use Rattle.qx_walk.specs.Kept.{Kept, with_records}
 use Rattle.qx_walk.specs.Rows.{Holds, WalksRecord, WalksRecords, WalksThrough, begins_with_dots}
-use Rattle.qx_walk.specs.Tables.{HasListed, HoldsNames}
+use Rattle.qx_tables.specs.Tables.{HasListed, HoldsNames}
 
 -- ---- the first finding of two
 

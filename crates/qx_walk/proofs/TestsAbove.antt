@@ -28,7 +28,7 @@ use Rattle.qx_pointers.specs.Halts.{HaltsAt, IsCaused}
 use Rattle.qx_walk.specs.Inodes.{Begins, tests_above}
 use Rattle.qx_pointers.specs.Marks.{GoesThrough, Marks}
 use Rattle.qx_pointers.specs.Parts.{kept_leaves}
-use Rattle.qx_walk.specs.Tables.{AreLeaves, HasListed, HoldsNames}
+use Rattle.qx_tables.specs.Tables.{AreLeaves, HasListed, HoldsNames}
 use Rattle.qx_walk.specs.Trees.{IsNoted}
 
 -- a place of a list of one value has it, and so has a place past its end

@@ -31,13 +31,13 @@ use Rattle.qx_walk.specs.declared.notes.Notes.{Notes}
 use Rattle.qx_pointers.specs.declared.node.Part.{Part}
 use Rattle.qx_walk.specs.declared.seen.Directory.{Directory}
 use Rattle.qx_walk.specs.declared.seen.Seen.{Seen}
-use Rattle.qx_walk.specs.declared.table.InodeTable.{InodeTable}
+use Rattle.qx_tables.specs.declared.table.InodeTable.{InodeTable}
 use Rattle.qx_walk.specs.declared.way.Way.{Way}
 use Rattle.qx_pointers.specs.Halts.{HaltsAt}
 use Rattle.qx_walk.specs.Inodes.{Done, Remembers, WalksInode, WalksNode, own_tests, taken_with, with_inode}
 use Rattle.qx_pointers.specs.Marks.{Marks}
 use Rattle.qx_walk.specs.Rows.{WalksRecords, begins_with_dots}
-use Rattle.qx_walk.specs.Tables.{HasListed, HoldsInodes, HoldsNames, places_of}
+use Rattle.qx_tables.specs.Tables.{HasListed, HoldsInodes, HoldsNames, places_of}
 use Rattle.qx_walk.specs.Trees.{IsNoted, note_if}
 
 -- ---- records

@@ -17,7 +17,7 @@ use Rattle.qx_walk.specs.declared.way.Way.{Way}
 use Rattle.qx_pointers.specs.Halts.{Answers}
 use Rattle.qx_pointers.specs.Marks.{Marks}
 use Rattle.qx_pointers.specs.Parts.{IsWhole}
-use Rattle.qx_walk.specs.Tables.{AreLeaves, HasListed, HoldsNames, bad_number}
+use Rattle.qx_tables.specs.Tables.{AreLeaves, HasListed, HoldsNames, bad_number}
 use Rattle.qx_walk.specs.Trees.{IsNoted, note_if}
 
 -- the tests that come before those of the inodes

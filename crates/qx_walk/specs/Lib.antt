@@ -5,7 +5,6 @@ pub use Rattle.qx_pointers.specs.Halts
 pub use Rattle.qx_pointers.specs.Marks
 pub use Rattle.qx_pointers.specs.Parts
 pub use Rattle.qx_view.specs.Walk
-pub mod Tables
 pub mod Kept
 pub mod Rows
 pub mod Trees

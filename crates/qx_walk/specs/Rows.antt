@@ -14,7 +14,7 @@ use Rattle.qx_walk.specs.declared.seen.Directory.{Directory}
 use Rattle.qx_walk.specs.declared.seen.Seen.{Seen}
 use Rattle.qx_pointers.specs.Halts.{Answers}
 use Rattle.qx_walk.specs.Kept.{Kept, with_record, with_records, with_row}
-use Rattle.qx_walk.specs.Tables.{HasListed, HasNames, HoldsNames}
+use Rattle.qx_tables.specs.Tables.{HasListed, HasNames, HoldsNames}
 
 -- what records left behind is in memory
 pub record Holds (m : BlockMap) (longfile : Root) (kept : Kept) (seen : Seen) : Type 0 where

@@ -11,7 +11,7 @@ use Rattle.qx_walk.specs.declared.notes.Notes.{Notes}
 use Rattle.qx_walk.specs.declared.roots.RootNodes.{RootNodes}
 use Rattle.qx_walk.specs.declared.walked.Walked.{Walked}
 use Rattle.qx_pointers.specs.Marks.{Marks}
-use Rattle.qx_walk.specs.Tables.{HoldsInodes, places_of}
+use Rattle.qx_tables.specs.Tables.{HoldsInodes, places_of}
 
 -- the lesser of a number that may be there and another
 abbrev pub sooner : Option ℕ → ℕ → Option ℕ

@@ -19,13 +19,14 @@ ghost use Rattle.qx_walk.specs.Kept.{Kept};
 ghost use Rattle.qx_pointers.specs.Parts.{IsPlaced};
 ghost use Rattle.qx_walk.specs.Rows.{Holds, NamesSome, WalksRecord, WalksRecords, WalksRow, WalksThrough, begins_with_dots, dots_in, record_place};
 ghost use Rattle.qx_pointers.specs.Shown.{Fits, JustReads, Shows};
-ghost use Rattle.qx_walk.specs.Tables.{AreInside, AreLeaves, HasListed, HoldsInodes, HoldsNames, IsListing, places_of};
+ghost use Rattle.qx_tables.specs.Tables.{AreInside, AreLeaves, HasListed, HoldsInodes, HoldsNames, IsListing, places_of};
 
-use crate::{Directory, Ground, Listing, RecordPlace, Seen};
+use crate::{Directory, Ground, RecordPlace, Seen};
 use qx_fields::Order;
 use qx_outside::Dev;
 use qx_pointers::{Halt, LeafPlace, Shape, read_block};
 use qx_records::{Kind, Slot, name_sum, name_sum_signed, slot_at};
+use qx_tables::Listing;
 
 /// Goes through the tests of a directory's records, and lists the inodes that they name.
 /// Answers whether the first two are short ones with the names `.` and `..`; of a directory with a hole, or whose size is 0 or no multiple of the block size, this says nothing.

@@ -9,15 +9,16 @@ ghost use Rattle.qx_view.specs.Walk.{inode_mode, inode_root};
 ghost use Rattle.qx_pointers.specs.Halts.{IsCaused};
 ghost use Rattle.qx_walk.specs.Inodes.{Begins, Done, Remembers, WalksAll, WalksInode};
 ghost use Rattle.qx_pointers.specs.Shown.{Fits, JustReads, Shows};
-ghost use Rattle.qx_walk.specs.Tables.{AreInside, HoldsInodes, IsListing, places_of};
+ghost use Rattle.qx_tables.specs.Tables.{AreInside, HoldsInodes, IsListing, places_of};
 
 use crate::own_nodes::{is_foreign_directory, noted, walk_own_node};
 use crate::way::Way;
-use crate::{Directory, Ground, Queued, Seen, walk_records};
+use crate::{Directory, Ground, Seen, walk_records};
 use qx_geom::ABSENT;
 use qx_outside::Dev;
 use qx_pointers::Halt;
 use qx_records::Kind;
+use qx_tables::Queued;
 
 /// Walks the inodes that are listed and those that they list, each in its turn.
 pub(crate) fn walk_inodes<D: Dev>(

@@ -12,17 +12,18 @@ ghost use Rattle.qx_view.specs.Walk.{Finding, walked_inodes};
 ghost use Rattle.qx_pointers.specs.Halts.{HaltsAt, IsCaused};
 ghost use Rattle.qx_walk.specs.Layouts.{HasNumbers, IsLast, IsNamed, IsShapeOf, has_right_counts, later_reason, reason_in};
 ghost use Rattle.qx_pointers.specs.Shown.{Fits, JustReads, Shows};
-ghost use Rattle.qx_walk.specs.Tables.{HoldsInodes, places_of};
+ghost use Rattle.qx_tables.specs.Tables.{HoldsInodes, places_of};
 ghost use Rattle.qx_walk.specs.Trees.{HasBounds, IsWalked};
 
 use crate::bitmap::first_wrong_bit;
 use crate::halves::is_laid_out;
-use crate::{Foreign, InodeTable, Walked};
+use crate::{Foreign, Walked};
 use qx_geom::{ABSENT, Geometry, Root, Which};
 use qx_outside::Dev;
 use qx_pointers::{Halt, Shape};
 use qx_records::Kind;
 use qx_super::{RootName, SuperView};
+use qx_tables::InodeTable;
 
 /// The geometry that this project writes for a superblock on a device of `len` bytes; none where it would write other numbers.
 pub fn geometry_of(view: &SuperView<'_>, len: u64) -> Option<Geometry>

@@ -1,8 +1,8 @@
 //! What the walk stands on, and what it keeps on its way.
 
-use crate::{InodeTable, Listing, LongNames, Names};
 use qx_geom::Root;
 use qx_pointers::Shape;
+use qx_tables::{InodeTable, Listing, LongNames, Names};
 
 /// What doesn't change while records are walked.
 #[derive(Drop)]

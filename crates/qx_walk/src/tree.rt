@@ -7,18 +7,19 @@ ghost use Rattle.qx_view.specs.Walk.{finding_of, top_tests};
 ghost use Rattle.qx_pointers.specs.Halts.{Answers, IsCaused};
 ghost use Rattle.qx_pointers.specs.Marks.{GoesThrough};
 ghost use Rattle.qx_pointers.specs.Shown.{Fits, JustReads, Shows};
-ghost use Rattle.qx_walk.specs.Tables.{HoldsInodes, places_of};
+ghost use Rattle.qx_tables.specs.Tables.{HoldsInodes, places_of};
 ghost use Rattle.qx_walk.specs.Trees.{HasBounds, IsWalked, roots_of};
 
 use crate::inodes::walk_inodes;
 use crate::own_nodes::{is_foreign_node, noted};
 use crate::way::Way;
-use crate::{Ground, InodeTable, Listing, LongNames, Names, Notes, RootNodes, Seen, Walked};
+use crate::{Ground, Notes, RootNodes, Seen, Walked};
 use qx_blockset::BlockSet;
 use qx_geom::ABSENT;
 use qx_outside::Dev;
 use qx_pointers::{Halt, Shape, Visitor, walk_node};
 use qx_records::Kind;
+use qx_tables::{InodeTable, Listing, LongNames, Names};
 use std::alloc::Global;
 
 /// Walks the tree that begins at these root nodes, to its first finding.

@@ -1,7 +1,8 @@
 //! What is known of a volume once its tree was walked.
 
-use crate::{InodeTable, Notes};
+use crate::Notes;
 use qx_blockset::BlockSet;
+use qx_tables::InodeTable;
 
 /// A tree that was walked without a finding.
 #[derive(Drop)]

@@ -7,7 +7,7 @@ use Rattle.qx_view.specs.Images.{Roots}
 use Rattle.qx_walk.specs.Kept.{Kept}
 use Rattle.qx_walk.specs.Rows.{Holds, WalksThrough}
 use Rattle.qx_pointers.specs.Shown.{Fits, JustReads, Shows}
-use Rattle.qx_walk.specs.Tables.{AreInside, HoldsInodes, IsListing, places_of}
+use Rattle.qx_tables.specs.Tables.{AreInside, HoldsInodes, IsListing, places_of}
 use Rattle.qx_walk.proofs.directory.walk_leaf.Given as goal
 
 -- the records so far were gone through

@@ -3,7 +3,7 @@ use Rattle.std.specs.Option.{option_copied}
 use Rattle.std.proofs.lemmas.Result.{err_from_is_err_and}
 use Rattle.qx_walk.proofs.RowTests.{long_halts, long_nameless, long_other, long_walks}
 use Rattle.qx_walk.specs.Rows.{record_place}
-use Rattle.qx_walk.specs.Tables.{HoldsNames}
+use Rattle.qx_tables.specs.Tables.{HoldsNames}
 use Rattle.qx_walk.proofs.directory.walk_long.Goals as goal
 
 pub returns-in_default-clause-walked : goal.returns-in_default-clause-walked

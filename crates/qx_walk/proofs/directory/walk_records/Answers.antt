@@ -6,7 +6,7 @@ use Rattle.std.proofs.lemmas.Result.{err_from_is_err_and}
 use Rattle.qx_geom.specs.Pointer.{per_block}
 use Rattle.qx_nodes.specs.Content.{HasSize}
 use Rattle.qx_walk.proofs.LeafDots.{has_first}
-use Rattle.qx_walk.proofs.LeafLists.{leaf_listed}
+use Rattle.qx_tables.proofs.LeafLists.{leaf_listed}
 use Rattle.qx_walk.proofs.LeafRecords.{block_sizes}
 use Rattle.qx_walk.proofs.LeafWalks.{leaves_halt, leaves_more, records_of, records_present, split_at}
 use Rattle.qx_walk.proofs.RowsInOrder.{caused_halt, caused_none, kept_before, walks_all, walks_as, walks_none}

@@ -7,7 +7,7 @@ use Rattle.qx_walk.proofs.RowsInOrder.{kept_before}
 use Rattle.qx_pointers.specs.declared.node.LeafPlace.{LeafPlace}
 use Rattle.qx_walk.specs.Rows.{WalksThrough, begins_with_dots}
 use Rattle.qx_pointers.specs.Shown.{Fits, JustReads, Shows}
-use Rattle.qx_walk.specs.Tables.{AreInside, AreLeaves, HasListed, HoldsInodes, HoldsNames, IsListing, places_of}
+use Rattle.qx_tables.specs.Tables.{AreInside, AreLeaves, HasListed, HoldsInodes, HoldsNames, IsListing, places_of}
 use Rattle.qx_walk.proofs.directory.walk_records.Given as goal
 
 -- the records of the leaves so far were gone through

@@ -8,7 +8,7 @@ use Rattle.qx_pointers.proofs.ShownBlocks.{shown_size, shows_before}
 use Rattle.qx_walk.proofs.WalkedInodes.{directory_walked, node_halts, records_halt, there_in}
 use Rattle.qx_pointers.specs.declared.node.LeafPlace.{LeafPlace}
 use Rattle.qx_walk.specs.Inodes.{WalksNode}
-use Rattle.qx_walk.specs.Tables.{AreLeaves}
+use Rattle.qx_tables.specs.Tables.{AreLeaves}
 use Rattle.qx_walk.proofs.inodes.walk_directory.Goals as goal
 
 pub returns-in_err-part-clause-walked : goal.returns-in_err-part-clause-walked

@@ -5,7 +5,7 @@ use Rattle.qx_view.specs.Images.{Roots}
 use Rattle.qx_walk.proofs.AllInodes.{IsOnWay}
 use Rattle.qx_walk.specs.Inodes.{Begins}
 use Rattle.qx_pointers.specs.Shown.{Fits, JustReads, Shows}
-use Rattle.qx_walk.specs.Tables.{AreInside, HoldsInodes, IsListing, places_of}
+use Rattle.qx_tables.specs.Tables.{AreInside, HoldsInodes, IsListing, places_of}
 use Rattle.qx_walk.proofs.inodes.walk_inodes.Given as goal
 
 -- the inodes that were taken so far were walked

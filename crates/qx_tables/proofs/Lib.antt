@@ -1,0 +1,6 @@
+pub mod FilledLeaves
+pub mod KeptNames
+pub mod LeafLists
+pub mod ListedInodes
+pub mod LongLeaves
+pub mod TableBytes

@@ -1,0 +1,12 @@
+use Rattle.std.proofs.Common.{◌≡◌, ◌∙◌, ap, rules, tests}
+use Rattle.std.specs.Prelude.{◌==◌}
+use Rattle.std.proofs.lemmas.Iterator.{YieldsList-from_slice}
+use Rattle.std.proofs.lemmas.Iterator.Search.{all_from_yields_List}
+use Rattle.qx_view.specs.Sound.{are_zero}
+use Rattle.qx_tables.proofs.TableBytes.{inode_piece}
+use Rattle.qx_tables.proofs.table.InodeTable.is_zero.Goals as goal
+
+pub returns : goal.returns
+returns c = λ m inodes h.
+    let all : c.all.result ≡ are_zero c.bytes_of.result.now = all_from_yields_List (λ b. b == 0) _ _ _ c.all.ensures.ran (YieldsList-from_slice c.bytes_of.result.now cc) (λ x b q k. search (rules, tests)) in
+    all ∙ ap are_zero (c.bytes_of.ensures.bytes ∙ inode_piece m inodes c.args.self.now c.args.n h c.requires.0 c.requires.1)
