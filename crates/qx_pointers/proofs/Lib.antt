@@ -1,5 +1,6 @@
 pub mod BareBlocks
 pub mod BlockPassage
+pub mod BlockRanges
 pub mod PassedTests
 pub mod PointerVisits
 pub mod SeenParts

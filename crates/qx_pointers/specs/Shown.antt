@@ -1,5 +1,5 @@
 -- What a device shows that is only read.
-use Rattle.std.specs.Prelude.{◌≡◌, ◌≤◌, ◌+◌, ◌*◌, ℕ, Bool, IsTrue, List, Option, IfSome}
+use Rattle.std.specs.Prelude.{◌≡◌, ◌≤◌, ◌+◌, ◌*◌, ℕ, Bool, IsTrue, List, Option, IfSome, length, slice_range}
 use Rattle.qx_outside.specs.Trail.{History, bytes_of}
 use Rattle.qx_outside.specs.declared.event.Attachment.{Attachment}
 use Rattle.qx_geom.specs.Layout.{blocks_begin}
@@ -15,6 +15,10 @@ shape_blocks s img = record { order = s.order; size = s.blocksize; count = s.cou
 pub record Shows {D : Type 0} (tells : D → Bool) (history : D → History) (shape : Shape) (host : D) (m : BlockMap) : Type 0 where
   pub told : IsTrue (tells host)
   pub is : m ≡ shape_blocks shape (bytes_of (history host))
+
+-- these bytes are those of blocks side by side, from this one on
+pub record HasBlocks (m : BlockMap) (first : ℕ) (bytes : List ℕ) : Type 0 where
+  pub each : (k : ℕ) → k * m.size + m.size ≤ length bytes → slice_range bytes (k * m.size) (k * m.size + m.size) ≡ m.bytes (first + k)
 
 -- a device whose length is told has room for all blocks
 abbrev pub Fits : {D : Type 0} → (D → Option ℕ) → Shape → D → Type 0

@@ -14,5 +14,5 @@ mod source;
 
 pub use halt::Halt;
 pub use node::{LeafPlace, Part, Visitor, walk_node};
-pub use reading::read_block;
+pub use reading::{read_block, read_block_from, read_blocks};
 pub use source::Shape;

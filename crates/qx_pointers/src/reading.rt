@@ -1,10 +1,11 @@
 //! Blocks of a device that is only read.
-ghost use Rattle.std.specs.Prelude.{◌≡◌, ◌<◌, length, OnOk};
+ghost use Rattle.std.specs.Prelude.{◌≡◌, ◌<◌, ◌≤◌, ◌+◌, ◌*◌, ◌/◌, ◌%◌, OnOk, drop, length};
+ghost use Rattle.qx_geom.specs.Layout.{blocks_begin};
 ghost use Rattle.qx_geom.specs.Lists.{each_below};
 ghost use Rattle.qx_geom.specs.Pointer.{per_block};
 ghost use Rattle.qx_nodes.specs.BlockMap.{BlockMap, word};
 ghost use Rattle.qx_outside.specs.Causes.{HasCause};
-ghost use Rattle.qx_pointers.specs.Shown.{Fits, JustReads, Shows};
+ghost use Rattle.qx_pointers.specs.Shown.{Fits, HasBlocks, JustReads, Shows};
 
 use crate::Shape;
 use qx_fields::get32s;
@@ -29,8 +30,54 @@ pub fn read_block<D: Dev>(
     ensures reads { JustReads D.tells D.history D.attached D.con_faults host.old host.new }
     ensures cause { HasCause (D.dev_faults host.old) (D.dev_faults host.new) result }
 {
-    let at = BLOCKS_BEGIN + u64::from(block) * u64::from(shape.blocksize);
+    read_block_from(host, shape, block, 0, into)
+}
+
+/// Fills the slice with the bytes of a block from one of them on, in bytes, to its end.
+pub fn read_block_from<D: Dev>(
+    host: &mut D,
+    shape: Shape,
+    block: u32,
+    from: usize,
+    into: &mut [u8],
+) -> Result<(), Failed>
+    requires block { block < shape.count }
+    requires long { from + length into.old ≡ shape.blocksize }
+    requires fits { Fits D.extent shape host.old }
+    ensures bytes { (m : BlockMap) → Shows D.tells D.history shape host.new m → OnOk result (into.new ≡ drop from (m.bytes block)) }
+    ensures long { length into.new ≡ length into.old }
+    ensures fits { Fits D.extent shape host.new }
+    ensures reads { JustReads D.tells D.history D.attached D.con_faults host.old host.new }
+    ensures cause { HasCause (D.dev_faults host.old) (D.dev_faults host.new) result }
+{
+    let at = place_of(shape, block) + from as u64;
     host.read_at(at, into)
+}
+
+/// Fills the slice with the bytes of blocks that stand side by side, from this one on.
+pub fn read_blocks<D: Dev>(
+    host: &mut D,
+    shape: Shape,
+    first: u32,
+    into: &mut [u8],
+) -> Result<(), Failed>
+    requires whole { length into.old % shape.blocksize ≡ 0 }
+    requires blocks { first + length into.old / shape.blocksize ≤ shape.count }
+    requires fits { Fits D.extent shape host.old }
+    ensures bytes { (m : BlockMap) → Shows D.tells D.history shape host.new m → OnOk result (HasBlocks m first into.new) }
+    ensures long { length into.new ≡ length into.old }
+    ensures fits { Fits D.extent shape host.new }
+    ensures reads { JustReads D.tells D.history D.attached D.con_faults host.old host.new }
+    ensures cause { HasCause (D.dev_faults host.old) (D.dev_faults host.new) result }
+{
+    host.read_at(place_of(shape, first), into)
+}
+
+// Where a block begins, in bytes.
+fn place_of(shape: Shape, block: u32) -> u64
+    ensures { result ≡ blocks_begin + block * shape.blocksize }
+{
+    BLOCKS_BEGIN + u64::from(block) * u64::from(shape.blocksize)
 }
 
 /// Fills the slice with the pointers of a pointer block.

@@ -1,9 +1,9 @@
 -- The bytes of all leaves, one after another: pieces that lie within a leaf, and what lies past the size.
-use Rattle.std.proofs.Common.{◌≡◌, ℕ, ◌+◌, ◌-◌, ◌*◌, ◌/◌, ◌%◌, ◌^◌, ◌<◌, ◌≤◌, ⊎_elim, inl, inr, List, [], ◌∷◌, length, take, drop, refl, sym, ◌∙◌, ap, subst, min, arith, length-drop}
+use Rattle.std.proofs.Common.{◌≡◌, ℕ, ◌+◌, ◌-◌, ◌*◌, ◌/◌, ◌%◌, ◌^◌, ◌<◌, ◌≤◌, ⊎_elim, inl, inr, List, [], ◌∷◌, length, drop, refl, sym, ◌∙◌, ap, subst, min, arith, length-drop}
 use Rattle.std.specs.Prelude.{Bool, true, false, not, ◌&&◌, ◌||◌, ◌==◌, nat_lt, if◌then◌else◌, slice_range}
 use Rattle.std.specs.List.{list_any}
 use Rattle.std.proofs.lemmas.Bool.{cases_eq, eq-eqb, eqb-true, cases_lt, ltb-false, ne_eqb, or_cases}
-use Rattle.std.proofs.lemmas.List.{drop-drop, drop-take, drop_all, take-take, take_all}
+use Rattle.std.proofs.lemmas.List.{drop-drop, drop_all, take_all}
 use Rattle.std.proofs.lemmas.Nat.{div-add-mod'}
 use Rattle.std.proofs.Math.Nat.{add-mul, one-mul}
 use Rattle.qx_geom.proofs.BlockSizes.{BlockSizeBounds, block_size-bounds}
@@ -15,24 +15,9 @@ use Rattle.qx_nodes.specs.Content.{leaf_bytes}
 use Rattle.qx_nodes.specs.Leaves.{leaves_below}
 use Rattle.qx_view.specs.Images.{inode_bytes}
 use Rattle.qx_view.specs.Sound.{are_zero, has_tail}
+use Rattle.qx_pointers.proofs.BlockRanges.{range_within}
 use Rattle.qx_tables.specs.declared.table.InodeTable.{InodeTable}
 use Rattle.qx_tables.specs.Tables.{HoldsInodes, places_of}
-
--- ---- ranges
-
--- a range of a range
-range_within : (bytes : List ℕ) (at size r n : ℕ) → r + n ≤ size → slice_range (slice_range bytes at (at + size)) r (r + n) ≡ slice_range bytes (at + r) (at + r + n)
-range_within bytes at size r n room =
-    let wide : at + size - at ≡ r + (size - r) = omega arith in
-    let part : r + n - r ≡ n = omega arith in
-    let same : n ≡ at + r + n - (at + r) = omega arith in
-    let few : n ≤ size - r = omega arith in
-    ap (λ k. take k (drop r (take (at + size - at) (drop at bytes)))) part
-    ∙ ap (λ k. take n (drop r (take k (drop at bytes)))) wide
-    ∙ ap (λ l. take n l) (drop-take r (size - r) (drop at bytes))
-    ∙ take-take n (size - r) (drop r (drop at bytes)) few
-    ∙ ap (λ l. take n l) (drop-drop r at bytes)
-    ∙ ap (λ k. take k (drop (at + r) bytes)) same
 
 -- ---- the pieces of inodes
 

@@ -1,5 +1,5 @@
 -- What the walk keeps of a volume: its inodes, the leaves of its Longfile, and the names of the directory under the walk.
-use Rattle.std.specs.Prelude.{All, drop, ◌≡◌, ◌+◌, ◌*◌, ◌/◌, ◌%◌, ◌<◌, ◌≤◌, ◌^◌, ◌-◌, ℕ, true, not, IsTrue, List, Contains, bytes_eq, count_by, length, map, min, nat_lt, Option, Some, slice_get, slice_range, filter, if◌then◌else◌, ◌==◌}
+use Rattle.std.specs.Prelude.{All, drop, ◌≡◌, ◌+◌, ◌*◌, ◌/◌, ◌%◌, ◌<◌, ◌≤◌, ◌^◌, ◌-◌, ◌&&◌, ◌⊎◌, ℕ, Bool, true, not, IsTrue, List, Contains, bytes_eq, count_by, length, map, min, nat_lt, Option, Some, slice_get, slice_index_or, slice_range, filter, if◌then◌else◌, ◌==◌}
 use Rattle.std.specs.List.{HoldsAt, list_any}
 use Rattle.qx_geom.specs.Layout.{is_block_size}
 use Rattle.qx_geom.specs.declared.root.Root.{Root}
@@ -33,6 +33,24 @@ places_of table = if nat_lt (table.size / 128) (2 ^ 32) then table.size / 128 el
 -- the bytes of leaf i among those of all leaves, one after another
 abbrev pub leaf_range : ℕ → List ℕ → ℕ → List ℕ
 leaf_range blocksize bytes i = slice_range bytes (i * blocksize) (i * blocksize + blocksize)
+
+-- leaf k of a list
+abbrev pub leaf_in : List LeafPlace → ℕ → LeafPlace
+leaf_in leaves k = slice_index_or leaves k (record { index = 0; block = 0 })
+
+-- the second leaf stands right behind the first, in its node and on the device
+abbrev pub is_behind : LeafPlace → LeafPlace → Bool
+is_behind leaf next = (next.index == leaf.index + 1) && (next.block == leaf.block + 1)
+
+-- so many leaves from a place on stand side by side, one at least
+pub record IsRun (leaves : List LeafPlace) (from count : ℕ) : Type 0 where
+  pub some : 0 < count
+  pub inside : from + count ≤ length leaves
+  pub each : (k : ℕ) → k + 1 < count → is_behind (leaf_in leaves (from + k)) (leaf_in leaves (from + k + 1)) ≡ true
+
+-- number i is none of so many from this one on
+abbrev pub IsApart : ℕ → ℕ → ℕ → Type 0
+IsApart first count i = (i < first) ⊎ (first + count ≤ i)
 
 -- a table has the leaves of this Inode tree
 pub record HoldsInodes (m : BlockMap) (inodes : Root) (table : InodeTable) : Type 0 where

@@ -3,12 +3,13 @@
 //! Stands on `qx_pointers` for blocks that are read and the leaves of a node, on `qx_blockset` for the inodes that were listed, and on `qx_view` for what inodes and long names are; the walk stands on it.
 //! Its contract: each call answers what the image or the earlier calls have of an inode, a long name, a name or the list, as `specs/Tables.antt` says what each keeps.
 //! It keeps the leaves of the Inode tree with bytes 0 for those that aren't present, and of the Longfile where its present leaves stand and how often each was named.
-//! It writes nothing, reads a leaf of the Inode tree once, and takes no memory but where it may answer that there is none.
+//! It writes nothing, reads a leaf of the Inode tree once, those side by side in one call, and takes no memory but where it may answer that there is none.
 #![tactic(auto)]
 
 mod listing;
 mod long_names;
 mod names;
+mod runs;
 mod table;
 
 pub use listing::{Listing, Queued};

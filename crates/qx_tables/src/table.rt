@@ -1,12 +1,16 @@
 //! The inodes of a volume, read once.
 ghost use Rattle.std.specs.Prelude.{◌≤◌, length};
 
+use crate::runs::run_length;
 use qx_fields::Order;
 use qx_geom::Root;
 use qx_outside::{Dev, Failed};
-use qx_pointers::{Halt, LeafPlace, Shape, read_block};
+use qx_pointers::{Halt, LeafPlace, Shape, read_blocks};
 use qx_records::{Inode, InodeView};
 use std::alloc::Global;
+
+/// How many bytes one call of the device reads at most.
+const MOST_AT_ONCE: usize = 65536;
 
 /// The inodes of a volume: all leaves of its Inode tree, those that aren't present as bytes 0.
 #[derive(Drop)]
@@ -19,7 +23,7 @@ pub struct InodeTable {
 }
 
 impl InodeTable {
-    ghost use Rattle.std.specs.Prelude.{◌≡◌, ◌≢◌, ◌<◌, ◌≤◌, ◌+◌, ◌*◌, ◌-◌, ℕ, All, IfErr, IfOk, OnOk, Option, drop, slice_range};
+    ghost use Rattle.std.specs.Prelude.{◌≡◌, ◌<◌, ◌≤◌, ◌+◌, ◌*◌, ◌-◌, ℕ, All, IfErr, IfOk, OnOk, Option, drop, slice_range};
     ghost use Rattle.qx_geom.specs.declared.root.Root.{Root as node};
     ghost use Rattle.qx_nodes.specs.BlockMap.{BlockMap};
     ghost use Rattle.qx_view.specs.Images.{inode_bytes, inode_of, places_in};
@@ -29,7 +33,7 @@ impl InodeTable {
     ghost use Rattle.qx_pointers.specs.Halts.{HaltsAt, IsCaused};
     ghost use Rattle.qx_pointers.specs.Parts.{IsPlaced};
     ghost use Rattle.qx_pointers.specs.Shown.{Fits, JustReads, Shows};
-    ghost use Rattle.qx_tables.specs.Tables.{AreLeaves, HoldsInodes, leaf_range, places_of};
+    ghost use Rattle.qx_tables.specs.Tables.{AreLeaves, HoldsInodes, IsApart, leaf_range, places_of};
 
     /// Reads the leaves of the Inode tree.
     pub fn read<D: Dev>(
@@ -53,9 +57,13 @@ impl InodeTable {
     {
         let blocksize = u64::from(shape.blocksize);
         let count = inodes.size.div_ceil(blocksize);
+        let most = MOST_AT_ONCE / shape.blocksize as usize;
         let mut bytes = vec![in alloc; 0; (count * blocksize) as usize]?;
-        for leaf in leaves {
-            InodeTable::read_leaf(host, shape, *leaf, &mut bytes)?;
+        let mut at = 0;
+        while at < leaves.len() {
+            let run = run_length(leaves, at, most);
+            InodeTable::read_run(host, shape, leaves[at], run, &mut bytes)?;
+            at += run;
         }
         Ok(InodeTable {
             order: shape.order,
@@ -114,26 +122,28 @@ impl InodeTable {
         &self.bytes[at..at + 128]
     }
 
-    // Reads a leaf to its place among the bytes of all leaves.
-    fn read_leaf<D: Dev>(
+    // Reads so many leaves that stand side by side to their places among the bytes of all leaves.
+    fn read_run<D: Dev>(
         host: &mut D,
         shape: Shape,
-        leaf: LeafPlace,
+        first: LeafPlace,
+        count: usize,
         bytes: &mut [u8],
     ) -> Result<(), Failed>
-        requires block { leaf.block < shape.count }
-        requires inside { leaf.index * shape.blocksize + shape.blocksize ≤ length bytes.old }
+        requires blocks { first.block + count ≤ shape.count }
+        requires inside { first.index * shape.blocksize + count * shape.blocksize ≤ length bytes.old }
         requires fits { Fits D.extent shape host.old }
-        ensures leaf { (m : BlockMap) → Shows D.tells D.history shape host.new m → OnOk result (leaf_range shape.blocksize bytes.new leaf.index ≡ m.bytes leaf.block) }
-        ensures others { (i : ℕ) → i ≢ leaf.index → leaf_range shape.blocksize bytes.new i ≡ leaf_range shape.blocksize bytes.old i }
+        ensures leaves { (m : BlockMap) → Shows D.tells D.history shape host.new m
+            → OnOk result ((k : ℕ) → k < count → leaf_range shape.blocksize bytes.new (first.index + k) ≡ m.bytes (first.block + k)) }
+        ensures others { (i : ℕ) → IsApart first.index count i → leaf_range shape.blocksize bytes.new i ≡ leaf_range shape.blocksize bytes.old i }
         ensures long { length bytes.new ≡ length bytes.old }
         ensures fits { Fits D.extent shape host.new }
         ensures reads { JustReads D.tells D.history D.attached D.con_faults host.old host.new }
         ensures cause { HasCause (D.dev_faults host.old) (D.dev_faults host.new) result }
     {
         let size = shape.blocksize as usize;
-        let at = leaf.index as usize * size;
-        read_block(host, shape, leaf.block, &mut bytes[at..at + size])
+        let at = first.index as usize * size;
+        read_blocks(host, shape, first.block, &mut bytes[at..at + count * size])
     }
 }
 

@@ -16,7 +16,7 @@ ghost use Rattle.qx_walk.specs.Trees.{note_if};
 use crate::way::Way;
 use qx_geom::{Root, levels};
 use qx_outside::Dev;
-use qx_pointers::{Halt, Part, Shape, Visitor, read_block, walk_node};
+use qx_pointers::{Halt, Part, Shape, Visitor, read_block_from, walk_node};
 
 /// Walks the node of inode n, and notes where it isn't as this project writes it.
 pub(crate) fn walk_own_node<D: Dev>(
@@ -100,9 +100,9 @@ fn has_tail<D: Dev>(host: &mut D, shape: Shape, node: &Root, part: Part) -> Resu
         return Ok(false);
     }
     let mut buffer = [0; 4096];
-    let leaf = &mut buffer[0..shape.blocksize as usize];
-    read_block(host, shape, block, leaf)?;
-    Ok(!is_zero(&leaf[past..]))
+    let tail = &mut buffer[0..shape.blocksize as usize - past];
+    read_block_from(host, shape, block, past, tail)?;
+    Ok(!is_zero(tail))
 }
 
 /// Whether all bytes are 0.

@@ -154,8 +154,8 @@ fn each_device_call_that_fails_is_a_device_fault(rt: HostRuntime) -> Result<(), 
         assert!(rt; left.says(3, "device fault\n"), "{number}");
         last = number;
     }
-    // The attach, the length, both areas, and the blocks that are read.
-    assert!(rt; last >= 9 && last < 99, "{last}");
+    // The attach, the length, both areas, the Inode tree's leaves in one call, the root directory and the bitmap.
+    assert_eq!(rt; last, 6);
     let (ended, host) = ran_in_room(alloc, &CHECK, small_image(alloc)?, &[], 0)?;
     assert_eq!(rt; (ended, host.events()), (4, 0));
     Ok(())

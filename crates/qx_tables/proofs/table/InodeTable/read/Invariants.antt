@@ -1,4 +1,4 @@
-use Rattle.std.proofs.Common.{◌≡◌, ◌*◌, length, take}
+use Rattle.std.proofs.Common.{◌≡◌, ◌*◌, ◌-◌, ◌≤◌, length}
 use Rattle.qx_geom.specs.Lists.{IsAscending}
 use Rattle.qx_nodes.specs.BlockMap.{BlockMap}
 use Rattle.qx_tables.proofs.FilledLeaves.{IsFilled}
@@ -7,11 +7,16 @@ use Rattle.qx_pointers.specs.Shown.{Fits, JustReads, Shows}
 use Rattle.qx_tables.proofs.table.InodeTable.read.Given as goal
 
 -- the leaves so far stand in their places, and the others are 0
-abbrev pub invariant-loop-leaf : goal.invariant-loop-leaf
-invariant-loop-leaf g l = record {
-  filled : (m : BlockMap) → Shows g.D.Dev.tells g.D.Dev.history l.fn.shape l.host m → IsAscending (numbers_of l.leaves) → IsFilled m l.count (take l.leaf-index l.leaves) l.bytes.items;
+abbrev pub invariant-loop-at : goal.invariant-loop-at
+invariant-loop-at g l = record {
+  filled : (m : BlockMap) → Shows g.D.Dev.tells g.D.Dev.history l.fn.shape l.host m → IsAscending (numbers_of l.leaves) → IsFilled m l.count l.leaves l.at l.bytes.items;
   long : length l.bytes.items ≡ l.count * l.fn.shape.blocksize;
+  taken : l.at ≤ length l.leaves;
   fits : Fits g.D.Dev.extent l.fn.shape l.host;
   reads : JustReads g.D.Dev.tells g.D.Dev.history g.D.Dev.attached g.D.Dev.con_faults l.fn.host l.host;
   faults : g.D.Dev.dev_faults l.host ≡ g.D.Dev.dev_faults l.fn.host;
 }
+
+-- the leaves that are left
+abbrev pub decreases-loop-at : goal.decreases-loop-at
+decreases-loop-at g l = length l.leaves - l.at
