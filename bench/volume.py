@@ -8,10 +8,10 @@ leaves it; the second has serial 2, is the active one, and its half holds the tr
 the image is the maker's, byte for byte. Every block of the tree is taken in the order in which a user would make it:
 a directory's first leaf, then each file's leaves with its row, pointer blocks of directories and long names last.
 
-Printed are the maker's line, what the tree has, and how many bytes a checker reads that takes each block with something
-to test once and whole: both superblocks, the bitmap and the inodes of the active half, the pointer blocks of both
-halves, long names, directories, pointer blocks, and the last leaf of each node whose size isn't a multiple of the block
-size. The pieces are those that lie apart in the image.
+Printed are the maker's line, what the tree has, and how many bytes a checker reads that takes what it has to test once:
+both superblocks, the bitmap and the inodes of the active half, the pointer blocks of both halves, long names,
+directories, pointer blocks, and of the last leaf of each node whose size isn't a multiple of the block size the bytes
+past the size. The pieces are the blocks of these bytes that lie apart in the image.
 """
 import argparse
 import mmap
@@ -245,7 +245,8 @@ class Volume:
         self.next_block = geometry.first_user + 1  # the first user block is the empty tree's root directory
         self.next_inode = 1
         self.longfile = Node()
-        self.to_read = set()  # blocks of the tree that a checker has to read
+        self.to_read = set()  # blocks of the tree in which a checker has to read
+        self.before_sizes = 0  # bytes before the size in those of them that are the last leaf of a file or a link
 
     def put(self, block, at, data):
         start = self.geometry.place(block) + at
@@ -321,8 +322,10 @@ class Volume:
     def add_node(self, node, mode):
         number = self.take_inode()
         self.put_inode(1, number, mode, 3, node, *node.pointers(self))
-        if node.size % self.geometry.blocksize:
-            self.to_read.add(node.leaves[node.size // self.geometry.blocksize])
+        last, before = divmod(node.size, self.geometry.blocksize)
+        if before:
+            self.to_read.add(node.leaves[last])
+            self.before_sizes += before
         return number
 
     # The whole
@@ -404,10 +407,10 @@ class Volume:
 
     def bytes_to_read(self):
         """The superblocks' too."""
-        return 2 * 512 + len(self.to_read) * self.geometry.blocksize
+        return 2 * 512 + len(self.to_read) * self.geometry.blocksize - self.before_sizes
 
     def runs_to_read(self):
-        """In how many pieces these bytes stand in the image."""
+        """In how many pieces the blocks of these bytes stand in the image."""
         return 2 + sum(block - 1 not in self.to_read for block in self.to_read)
 
 
