@@ -3,7 +3,7 @@ ghost use Rattle.std.specs.Prelude.{◌≡◌, false, Some, IfOk, OnOk};
 ghost use Rattle.std.specs.FinMap.{empty};
 ghost use Rattle.qx_blockset.specs.Members.{limit_of};
 ghost use Rattle.qx_cache.specs.Coherence.{HasRoom};
-ghost use Rattle.qx_outside.specs.Memory.{extent_of};
+ghost use Rattle.qx_outside.specs.Memory.{outside_of};
 
 use qx_alloc::Space;
 use qx_blocks::{Blocks, Stop};
@@ -28,7 +28,7 @@ fn set_of(alloc: Global, members: &[u32]) -> Result<BlockSet, AllocError>
 
 // A host with a device of `len` bytes 9. These calls fail.
 fn host_in_memory(alloc: Global, len: usize, failing: &[u64]) -> Result<MemHost, AllocError>
-    ensures { IfOk result (λ host. extent_of host ≡ Some len) }
+    ensures { IfOk result (λ host. (outside_of host).extent ≡ Some len) }
 {
     let bytes = vec![in alloc; 9; len]?;
     let input = b"ab".to_vec(alloc)?;
@@ -38,7 +38,7 @@ fn host_in_memory(alloc: Global, len: usize, failing: &[u64]) -> Result<MemHost,
 
 // A cache over a host, where the trees hold blocks 4 and 5.
 fn cache_over<H: Dev + Drop>(alloc: Global, host: H) -> Result<Cache<H>, Fail>
-    requires { HasRoom (H.extent host) 512 16 }
+    requires { HasRoom (H.outside host).extent 512 16 }
     ensures { IfOk result (λ cache. cache.space.is_frozen ≡ false) }
 {
     let held = set_of(alloc, &[2, 4, 5])?;
@@ -91,7 +91,7 @@ fn read_over<H: Dev + Drop>(
     host: H,
     numbers: &[u32],
 ) -> Result<(Option<u8>, H), Fail>
-    requires { HasRoom (H.extent host) 512 16 }
+    requires { HasRoom (H.outside host).extent 512 16 }
 {
     let mut cache = cache_over(alloc, host)?;
     let byte = read_then_4(&mut cache, numbers)?;
@@ -143,7 +143,7 @@ fn taken_and_given_up<B: Blocks>(blocks: &mut B) -> Result<Seen, Stop> {
 
 // The same over a host.
 fn seen_over<H: Dev + Drop>(alloc: Global, host: H) -> Result<(Seen, H), Fail>
-    requires { HasRoom (H.extent host) 512 16 }
+    requires { HasRoom (H.outside host).extent 512 16 }
 {
     let mut cache = cache_over(alloc, host)?;
     let seen = taken_and_given_up(&mut cache)?;
@@ -164,7 +164,7 @@ fn first_bytes_over<H: Dev + Drop>(
     alloc: Global,
     host: H,
 ) -> Result<([Result<Option<u8>, Stop>; 3], H), Fail>
-    requires { HasRoom (H.extent host) 512 16 }
+    requires { HasRoom (H.outside host).extent 512 16 }
 {
     let mut cache = cache_over(alloc, host)?;
     let bytes = first_bytes(&mut cache);
@@ -222,7 +222,7 @@ fn snapshot<H: Dev>(cache: &mut Cache<H>) -> Result<u32, Stop>
 
 // The same over a host.
 fn snapshot_over<H: Dev + Drop>(alloc: Global, host: H) -> Result<(u32, H), Fail>
-    requires { HasRoom (H.extent host) 512 16 }
+    requires { HasRoom (H.outside host).extent 512 16 }
 {
     let mut cache = cache_over(alloc, host)?;
     let count = snapshot(&mut cache)?;
@@ -246,7 +246,7 @@ fn system_calls_over<H: Host + Drop>(
     host: H,
     into: &mut [u8; 2],
 ) -> Result<((usize, u32), H), Fail>
-    requires { HasRoom (H.extent host) 512 16 }
+    requires { HasRoom (H.outside host).extent 512 16 }
 {
     let mut cache = cache_over(alloc, host)?;
     let told = system_calls(&mut cache, into)?;

@@ -1,13 +1,13 @@
 //! A host in memory, called through its traits.
 ghost use Rattle.std.specs.Prelude.{◌≡◌, ◌≤◌, Some, IfOk, IfSome};
-ghost use Rattle.qx_outside.specs.Memory.{extent_of};
+ghost use Rattle.qx_outside.specs.Memory.{outside_of};
 
 use qx_outside::{ByteList, Dev, Event, Failed, Host, MemHost, Recorded};
 use std::alloc::Global;
 use std::test::Fail;
 
 fn host_of(alloc: Global, failing: &[u64], room: usize) -> Result<MemHost, Fail>
-    ensures { IfOk result (λ host. extent_of host ≡ Some 6) }
+    ensures { IfOk result (λ host. (outside_of host).extent ≡ Some 6) }
 {
     let bytes = [1, 2, 3, 4, 5, 6].to_vec(alloc)?;
     let input = b"abc".to_vec(alloc)?;
@@ -45,7 +45,7 @@ fn is_of_each_call(trail: &[Event]) -> bool {
 
 /// Whether each of two writes was good, and the bytes that then stand there.
 fn two_writes<D: Dev>(device: &mut D) -> Result<(bool, bool, [u8; 4]), Failed>
-    requires { IfSome (D.extent device.old) (λ len. 4 ≤ len) }
+    requires { IfSome (D.outside device.old).extent (λ len. 4 ≤ len) }
 {
     let first = device.write_at(0, &[7, 7]).is_ok();
     let second = device.write_at(1, &[8, 8, 8]).is_ok();

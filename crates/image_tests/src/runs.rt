@@ -110,8 +110,8 @@ fn texts(alloc: Global, words: &[&str]) -> Result<Vec<String>, Fail> {
 
 /// Runs the words over any host on which nothing was done: the status, and the host afterwards.
 fn ran_over<H: Host>(alloc: Global, words: &[String], host: H) -> (u8, H)
-    requires trail { IsTrue (H.tells host) → (H.history host).deeds ≡ [] }
-    requires attached { IfSome (H.attached host) (λ paths. paths ≡ []) }
+    requires trail { IsTrue (H.outside host).tells → (H.outside host).history.deeds ≡ [] }
+    requires attached { IfSome (H.outside host).attached (λ paths. paths ≡ []) }
 {
     let ended = run(alloc, words, host);
     (ended.status, ended.host)

@@ -44,19 +44,7 @@ impl RealHost {
 }
 
 impl Dev for RealHost {
-    ghost tells = { λ _. false };
-
-    ghost history = { λ _. record { starting = []; deeds = [] } };
-
-    ghost extent = { λ _. None };
-
-    ghost attached = { λ _. None };
-
-    ghost dev_reads = { λ _. None };
-
-    ghost dev_faults = { λ s. s.dev_faults };
-
-    ghost con_faults = { λ s. s.con_faults };
+    ghost outside = { λ s. record { tells = false; history = record { starting = []; deeds = [] }; extent = None; attached = None; dev_reads = None; dev_faults = s.dev_faults; con_faults = s.con_faults } };
 
     /// An attach that fails leaves the image that there was.
     fn attach(&mut self, path: &str, create: bool) -> Result<(), Failed> {

@@ -8,6 +8,7 @@ use Rattle.std.proofs.lemmas.List.Sums.{count_by-le-length}
 use Rattle.std.proofs.lemmas.List.FromFn.{length-range_with_len}
 use Rattle.std.specs.Ordering.{nat_cmp}
 use Rattle.std.specs.FinMap.{contains_key, get, get-empty}
+use Rattle.qx_outside.specs.Outside.{Outside}
 use Rattle.qx_outside.specs.Trail.{History, bytes_of}
 use Rattle.qx_outside.specs.Calls.{Idles}
 use Rattle.qx_blockset.specs.Members.{has}
@@ -81,7 +82,7 @@ or_none (Some x) other is = refl
 
 module _ {H : Type 0} where
   -- freezing the working tree leaves each block's bytes
-  pub bytes-frozen : {extent : H → Option ℕ} → (c : CacheState H) → IsCoherent extent c → c.space.is_frozen ≡ false → (device : List ℕ) (b : ℕ) → bytes_over device (with_frozen c) b ≡ bytes_over device c b
+  pub bytes-frozen : {outside : H → Outside} → (c : CacheState H) → IsCoherent outside c → c.space.is_frozen ≡ false → (device : List ℕ) (b : ℕ) → bytes_over device (with_frozen c) b ≡ bytes_over device c b
   bytes-frozen c k unfrozen device b =
       let out : has c.space.frozen b ≡ false = ap (λ s. has s b) (k.space.unfrozen unfrozen) ∙ has-none c.space.working b in
       let none : get c.frozen_changes b ≡ None = ap (λ m. get m b) (k.unfrozen unfrozen) ∙ get-empty nat_cmp b in
@@ -96,12 +97,12 @@ module _ {H : Type 0} where
   ]
 
   -- a changed block of the working tree isn't kept
-  pub unkept : {extent : H → Option ℕ} → (c : CacheState H) (b : ℕ) → IsCoherent extent c → contains_key c.changes b ≡ true → c.kept ≡ kept_but c.kept b
+  pub unkept : {outside : H → Outside} → (c : CacheState H) (b : ℕ) → IsCoherent outside c → contains_key c.changes b ≡ true → c.kept ≡ kept_but c.kept b
   unkept c b k there = none_kept b c.kept (λ is. absurd (cc (there, ap is_some (k.kept_clean b is).0)))
 
-module _ {H : Type 0} (tells : H → Bool) (history : H → History) where
+module _ {H : Type 0} (outside : H → Outside) where
   -- what a coherent cache means is consistent
-  pub consistent-state : {extent : H → Option ℕ} → ((s : H) → IsTrue (tells s) → extent s ≡ Some (length (bytes_of (history s)))) → (c : CacheState H) → IsCoherent extent c → IsConsistent (state_of tells history c)
+  pub consistent-state : ((s : H) → IsTrue (outside s).tells → (outside s).extent ≡ Some (length (bytes_of (outside s).history))) → (c : CacheState H) → IsCoherent outside c → IsConsistent (state_of outside c)
   consistent-state is c k = record {
     size = k.size;
     count = k.space.few;
@@ -111,20 +112,20 @@ module _ {H : Type 0} (tells : H → Bool) (history : H → History) where
     private_works = λ b private. private-works (has c.space.working b) (has c.space.frozen b) (has c.space.durable b) private;
     ready_private = λ b ready. sym (k.private_changed b) ∙ ready;
     told_long = λ told b held.
-        let room : block_place c.size (limit_in c.space) + 0x200 ≤ length (bytes_of (history c.host)) = subst (λ o. IfSome o (λ len. block_place c.size (limit_in c.space) + 0x200 ≤ len)) (is c.host told) k.room in
+        let room : block_place c.size (limit_in c.space) + 0x200 ≤ length (bytes_of (outside c.host).history) = subst (λ o. IfSome o (λ len. block_place c.size (limit_in c.space) + 0x200 ≤ len)) (is c.host told) k.room in
         let next = place-next c.size b (limit_in c.space) (held-user c.space b k.space held).1 in
-        chosen-long (get c.changes b) (get c.frozen_changes b) (is_held c.space b) (device_block (bytes_of (history c.host)) c.size b) c.size (k.long b) (k.frozen_long b) held
-        (length-device_block (bytes_of (history c.host)) c.size b (omega arith));
-    ready_long = λ b ready. changed-long (get c.changes b) (get c.frozen_changes b) (is_held c.space b) (device_block (bytes_of (history c.host)) c.size b) c.size (k.long b) ready;
+        chosen-long (get c.changes b) (get c.frozen_changes b) (is_held c.space b) (device_block (bytes_of (outside c.host).history) c.size b) c.size (k.long b) (k.frozen_long b) held
+        (length-device_block (bytes_of (outside c.host).history) c.size b (omega arith));
+    ready_long = λ b ready. changed-long (get c.changes b) (get c.frozen_changes b) (is_held c.space b) (device_block (bytes_of (outside c.host).history) c.size b) c.size (k.long b) ready;
   }
 
   -- once a free block is taken
-  pub state-taken : (c : CacheState H) (b : ℕ) → IsFree c.space b → free_in (space.with_taken c.space b) + 1 ≡ free_in c.space → state_of tells history (with_taken c b) ≡ with_fresh (state_of tells history c) b
+  pub state-taken : (c : CacheState H) (b : ℕ) → IsFree c.space b → free_in (space.with_taken c.space b) + 1 ≡ free_in c.space → state_of outside (with_taken c b) ≡ with_fresh (state_of outside c) b
   state-taken c b free less =
       let none = unheld-parts (has c.space.working b) (has c.space.frozen b) (has c.space.durable b) free.unheld in
-      let device : ℕ → List ℕ = λ q. device_block (bytes_of (history c.host)) c.size q in
-      same_state (state_of tells history (with_taken c b)) (with_fresh (state_of tells history c) b)
-      (same_holdings (state_of tells history (with_taken c b)).holdings (with_fresh (state_of tells history c) b).holdings refl (length-set c.space.working b true)
+      let device : ℕ → List ℕ = λ q. device_block (bytes_of (outside c.host).history) c.size q in
+      same_state (state_of outside (with_taken c b)) (with_fresh (state_of outside c) b)
+      (same_holdings (state_of outside (with_taken c b)).holdings (with_fresh (state_of outside c) b).holdings refl (length-set c.space.working b true)
       (λ q. held-set c.space b q true free.below none.1.0 none.1.1) (λ q. works-set c.space b q true free.below) (λ q. private-set c.space b q true free.below none.1.0 none.1.1)
       (λ q. there-put c.changes b q (replicate c.size 0)) (omega arith))
       refl
@@ -134,15 +135,15 @@ module _ {H : Type 0} (tells : H → Bool) (history : H → History) where
       refl
 
   -- once the working tree gives a block up
-  pub state-released : {extent : H → Option ℕ} → (c : CacheState H) (b : ℕ) → IsCoherent extent c → has c.space.working b ≡ true → free_in (space.without c.space b) ≡ (if is_private_in c.space b then free_in c.space + 1 else free_in c.space)
-      → state_of tells history (with_released c b) ≡ without (state_of tells history c) b
+  pub state-released : (c : CacheState H) (b : ℕ) → IsCoherent outside c → has c.space.working b ≡ true → free_in (space.without c.space b) ≡ (if is_private_in c.space b then free_in c.space + 1 else free_in c.space)
+      → state_of outside (with_released c b) ≡ without (state_of outside c) b
   state-released c b k works more =
       elim (is_private_in c.space b) as (λ t. is_private_in c.space b ≡ t → free_in (space.without c.space b) ≡ (if t then free_in c.space + 1 else free_in c.space)
-      → state_of tells history (with_released c b) ≡ (if t then with_free (state_of tells history c) b else with_shared (state_of tells history c) b)) [
+      → state_of outside (with_released c b) ≡ (if t then with_free (state_of outside c) b else with_shared (state_of outside c) b)) [
         | true ↦ λ is left.
             let others = private-alone (has c.space.working b) (has c.space.frozen b) (has c.space.durable b) is in
-            same_state (state_of tells history (with_released c b)) (with_free (state_of tells history c) b)
-            (same_holdings (state_of tells history (with_released c b)).holdings (with_free (state_of tells history c) b).holdings refl (length-set c.space.working b false)
+            same_state (state_of outside (with_released c b)) (with_free (state_of outside c) b)
+            (same_holdings (state_of outside (with_released c b)).holdings (with_free (state_of outside c) b).holdings refl (length-set c.space.working b false)
             (λ q. held-set c.space b q false low others.0 others.1) (λ q. works-set c.space b q false low) (λ q. private-set c.space b q false low others.0 others.1)
             (λ q. there-gone c.changes b q) left)
             refl
@@ -155,8 +156,8 @@ module _ {H : Type 0} (tells : H → Bool) (history : H → History) where
             refl
         | false ↦ λ is left.
             let absent : get c.changes b ≡ None = none_there (get c.changes b) (k.private_changed b ∙ is) in
-            same_state (state_of tells history (with_released c b)) (with_shared (state_of tells history c) b)
-            (same_holdings (state_of tells history (with_released c b)).holdings (with_shared (state_of tells history c) b).holdings refl (length-set c.space.working b false)
+            same_state (state_of outside (with_released c b)) (with_shared (state_of outside c) b)
+            (same_holdings (state_of outside (with_released c b)).holdings (with_shared (state_of outside c) b).holdings refl (length-set c.space.working b false)
             (λ q. held-shared c.space b q low is works) (λ q. works-set c.space b q false low) (λ q. private-shared c.space b q low is)
             (λ q. there-gone c.changes b q ∙ put-same (contains_key c.changes) b q false (k.private_changed b ∙ is)) left)
             refl
@@ -167,7 +168,7 @@ module _ {H : Type 0} (tells : H → Bool) (history : H → History) where
         low = has-below c.space.working b works
 
         device : ℕ → List ℕ
-        device q = device_block (bytes_of (history c.host)) c.size q
+        device q = device_block (bytes_of (outside c.host).history) c.size q
 
         unfrozen : has c.space.frozen b ≡ false → get c.frozen_changes b ≡ None
         unfrozen out =
@@ -177,39 +178,39 @@ module _ {H : Type 0} (tells : H → Bool) (history : H → History) where
             ] refl
 
   -- once a block was read, or not
-  pub keeps-read : (c : CacheState H) (host : H) (kept : List ℕ) → Idles tells history c.host host → Keeps (state_of tells history c) (state_of tells history (record c { host = host; kept = kept }))
+  pub keeps-read : (c : CacheState H) (host : H) (kept : List ℕ) → Idles (outside c.host) (outside host) → Keeps (state_of outside c) (state_of outside (record c { host = host; kept = kept }))
   keeps-read c host kept idles = record {
-    told = λ told. λ i. state_in (both (tells host) (tells c.host) told (idles.before told) i) (idles.step told i);
+    told = λ told. λ i. state_in (both (outside host).tells (outside c.host).tells told (idles.before told) i) (idles.step told i);
     holdings = refl;
-    ready = λ b ready. changed-alike (get c.changes b) (get c.frozen_changes b) (is_held c.space b) (device_block (bytes_of (history host)) c.size b) (device_block (bytes_of (history c.host)) c.size b) ready;
+    ready = λ b ready. changed-alike (get c.changes b) (get c.frozen_changes b) (is_held c.space b) (device_block (bytes_of (outside host).history) c.size b) (device_block (bytes_of (outside c.host).history) c.size b) ready;
   } where
     state_in : Bool → History → BlockState
-    state_in t h = record (state_of tells history c) { tells = t; bytes = bytes_over (bytes_of h) c; history = h }
+    state_in t h = record (state_of outside c) { tells = t; bytes = bytes_over (bytes_of h) c; history = h }
 
     both : (s t : Bool) → s ≡ true → t ≡ true → s ≡ t
     both s t f g = f ∙ sym g
 
   -- another device on which the held blocks that aren't changed are the same
-  pub same-blocks : (c : CacheState H) (host : H) → (IsTrue (tells host) → (b : ℕ) → change_of c b ≡ None → is_held c.space b ≡ true → device_block (bytes_of (history host)) c.size b ≡ device_block (bytes_of (history c.host)) c.size b)
-      → HasSameBlocks tells history c (with_host c host)
+  pub same-blocks : (c : CacheState H) (host : H) → (IsTrue (outside host).tells → (b : ℕ) → change_of c b ≡ None → is_held c.space b ≡ true → device_block (bytes_of (outside host).history) c.size b ≡ device_block (bytes_of (outside c.host).history) c.size b)
+      → HasSameBlocks outside c (with_host c host)
   same-blocks c host same = record {
     holdings = refl;
-    bytes = λ told b. chosen-alike (get c.changes b) (get c.frozen_changes b) (is_held c.space b) (device_block (bytes_of (history host)) c.size b) (device_block (bytes_of (history c.host)) c.size b) (same told b);
+    bytes = λ told b. chosen-alike (get c.changes b) (get c.frozen_changes b) (is_held c.space b) (device_block (bytes_of (outside host).history) c.size b) (device_block (bytes_of (outside c.host).history) c.size b) (same told b);
   }
 
   -- a changed block of the frozen tree has its bytes on the device then
   pub same-written : (c : CacheState H) (host : H) (b : ℕ) (bytes : List ℕ) → get c.changes b ≡ None → get c.frozen_changes b ≡ Some bytes → is_held c.space b ≡ true
-      → (IsTrue (tells host) → device_block (bytes_of (history host)) c.size b ≡ bytes)
-      → (IsTrue (tells host) → (q : ℕ) → q ≢ b → device_block (bytes_of (history host)) c.size q ≡ device_block (bytes_of (history c.host)) c.size q)
-      → HasSameBlocks tells history c (with_written c host b)
+      → (IsTrue (outside host).tells → device_block (bytes_of (outside host).history) c.size b ≡ bytes)
+      → (IsTrue (outside host).tells → (q : ℕ) → q ≢ b → device_block (bytes_of (outside host).history) c.size q ≡ device_block (bytes_of (outside c.host).history) c.size q)
+      → HasSameBlocks outside c (with_written c host b)
   same-written c host b bytes absent there held stands others = record {
     holdings = refl;
     bytes = λ told q. elim (cases_eq q b) [
       | inl e ↦
-          (λ i. bytes_over (bytes_of (history host)) (with_written c host b) (e i))
+          (λ i. bytes_over (bytes_of (outside host).history) (with_written c host b) (e i))
           ∙ (λ i. chosen (absent i) ((get-gone c.frozen_changes b b ∙ ap (λ t. if t then None else get c.frozen_changes b) (eq-eqb b b refl)) i) (held i) (stands told i))
-          ∙ sym (λ i. chosen (absent i) (there i) (is_held c.space b) (device_block (bytes_of (history c.host)) c.size b))
-          ∙ ap (bytes_over (bytes_of (history c.host)) c) (sym e)
+          ∙ sym (λ i. chosen (absent i) (there i) (is_held c.space b) (device_block (bytes_of (outside c.host).history) c.size b))
+          ∙ ap (bytes_over (bytes_of (outside c.host).history) c) (sym e)
       | inr differ ↦
           (λ i. chosen (get c.changes q) ((get-gone c.frozen_changes b q ∙ apart q differ) i) (is_held c.space q) (others told q differ i))
     ];
@@ -218,13 +219,13 @@ module _ {H : Type 0} (tells : H → Bool) (history : H → History) where
     apart q differ = elim (q == b) as (λ t. (q == b) ≡ t → (if t then None else get c.frozen_changes q) ≡ get c.frozen_changes q) [ true ↦ λ e. absurd (differ (eqb-true q b e)) | false ↦ λ _. refl ] refl
 
   -- a changed block of the working tree is ready
-  pub made-ready : (c : CacheState H) (b : ℕ) → contains_key c.changes b ≡ true → MakesReady b (state_of tells history c) (state_of tells history c)
+  pub made-ready : (c : CacheState H) (b : ℕ) → contains_key c.changes b ≡ true → MakesReady b (state_of outside c) (state_of outside c)
   made-ready c b there =
       let ready : (q : ℕ) → contains_key c.changes q ≡ put (contains_key c.changes) b true q = λ q. sym (put-same (contains_key c.changes) b q true there) in
-      let holdings : (state_of tells history c).holdings ≡ (with_ready (state_of tells history c) b).holdings =
-      same_holdings (state_of tells history c).holdings (with_ready (state_of tells history c) b).holdings refl refl (λ q. refl) (λ q. refl) (λ q. refl) ready refl in
+      let holdings : (state_of outside c).holdings ≡ (with_ready (state_of outside c) b).holdings =
+      same_holdings (state_of outside c).holdings (with_ready (state_of outside c) b).holdings refl refl (λ q. refl) (λ q. refl) (λ q. refl) ready refl in
       record {
-        told = λ _. same_state (state_of tells history c) (with_ready (state_of tells history c) b) holdings refl (λ q. refl) refl;
+        told = λ _. same_state (state_of outside c) (with_ready (state_of outside c) b) holdings refl (λ q. refl) refl;
         holdings = holdings;
         ready = λ q _. refl;
       }

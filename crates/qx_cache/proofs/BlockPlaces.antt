@@ -1,10 +1,11 @@
 -- Where blocks lie on a device, and what a write elsewhere leaves of them.
-use Rattle.std.proofs.Common.{◌≡◌, ◌≢◌, ℕ, ◌+◌, ◌-◌, ◌*◌, ◌<◌, ◌≤◌, ◌⊎◌, inl, inr, Bool, false, List, length, drop, length-drop, refl, sym, ◌∙◌, ap, subst, arith}
-use Rattle.std.specs.Prelude.{IsTrue, IfSome, Option, Some}
+use Rattle.std.proofs.Common.{◌≡◌, ◌≢◌, ℕ, ◌+◌, ◌-◌, ◌*◌, ◌<◌, ◌≤◌, ◌⊎◌, inl, inr, false, List, length, drop, length-drop, refl, sym, ◌∙◌, ap, subst, arith}
+use Rattle.std.specs.Prelude.{IsTrue, IfSome, Some}
 use Rattle.std.proofs.lemmas.Bool.{cases_lt}
 use Rattle.std.proofs.lemmas.List.{length-take}
 use Rattle.qx_bytes.proofs.Puts.{range_put_apart}
-use Rattle.qx_outside.specs.Trail.{History, bytes_of}
+use Rattle.qx_outside.specs.Outside.{Outside}
+use Rattle.qx_outside.specs.Trail.{bytes_of}
 use Rattle.qx_outside.specs.Calls.{FailsToWrite, Writes}
 use Rattle.qx_cache.specs.CacheState.{block_place, device_block}
 
@@ -35,26 +36,25 @@ pub length-device_block : (device : List ℕ) (size b : ℕ) → block_place siz
 length-device_block device size b within =
     omega (arith, length-take (block_place size b + size - block_place size b) (drop (block_place size b) device), length-drop (block_place size b) device)
 
-module _ {D : Type 0} (tells : D → Bool) (history : D → History) where
-  -- a write that failed is a write
-  pub failed-writes : (at : ℕ) (asked : List ℕ) (old new : D) → FailsToWrite tells history at asked old new → Writes tells history at asked old new
-  failed-writes at asked old new f = record {
-    before = f.before;
-    step = λ told. elim (f.step told) [ inl same ↦ inl same | inr w ↦ inr (w.0, (false, w.1, w.2)) ];
-  }
+-- a write that failed is a write
+pub failed-writes : (at : ℕ) (asked : List ℕ) (old new : Outside) → FailsToWrite at asked old new → Writes at asked old new
+failed-writes at asked old new f = record {
+  before = f.before;
+  step = λ told. elim (f.step told) [ inl same ↦ inl same | inr w ↦ inr (w.0, (false, w.1, w.2)) ];
+}
 
-  -- a block that lies apart from a write has the bytes that it had
-  pub block-apart : (extent : D → Option ℕ) → ((s : D) → IsTrue (tells s) → extent s ≡ Some (length (bytes_of (history s)))) → (at : ℕ) (asked : List ℕ) (old new : D)
-      → Writes tells history at asked old new → IfSome (extent old) (λ len. at + length asked ≤ len) → IsTrue (tells new) → (size b : ℕ)
-      → (block_place size b + size ≤ at) ⊎ (at + length asked ≤ block_place size b) → device_block (bytes_of (history new)) size b ≡ device_block (bytes_of (history old)) size b
-  block-apart extent is at asked old new w within told size b apart =
-      let room : at + length asked ≤ length (bytes_of (history old)) = subst (λ o. IfSome o (λ len. at + length asked ≤ len)) (is old (w.before told)) within in
-      elim (w.step told) [
-        | inl same ↦ ap (λ h. device_block (bytes_of h) size b) same
-        | inr done ↦
-            let left : List ℕ = done.0 in
-            let long : length left ≡ length asked = done.1.1 in
-            let lies : (block_place size b + size ≤ at) ⊎ (at + length left ≤ block_place size b) = subst (λ n. (block_place size b + size ≤ at) ⊎ (at + n ≤ block_place size b)) (sym long) apart in
-            ap (λ h. device_block (bytes_of h) size b) done.1.2
-            ∙ range_put_apart (bytes_of (history old)) left at (length left) (block_place size b) size refl lies (omega arith)
-      ]
+-- a block that lies apart from a write has the bytes that it had
+pub block-apart : (at : ℕ) (asked : List ℕ) (old new : Outside) → (IsTrue old.tells → old.extent ≡ Some (length (bytes_of old.history)))
+    → Writes at asked old new → IfSome old.extent (λ len. at + length asked ≤ len) → IsTrue new.tells → (size b : ℕ)
+    → (block_place size b + size ≤ at) ⊎ (at + length asked ≤ block_place size b) → device_block (bytes_of new.history) size b ≡ device_block (bytes_of old.history) size b
+block-apart at asked old new is w within told size b apart =
+    let room : at + length asked ≤ length (bytes_of old.history) = subst (λ o. IfSome o (λ len. at + length asked ≤ len)) (is (w.before told)) within in
+    elim (w.step told) [
+      | inl same ↦ ap (λ h. device_block (bytes_of h) size b) same
+      | inr done ↦
+          let left : List ℕ = done.0 in
+          let long : length left ≡ length asked = done.1.1 in
+          let lies : (block_place size b + size ≤ at) ⊎ (at + length left ≤ block_place size b) = subst (λ n. (block_place size b + size ≤ at) ⊎ (at + n ≤ block_place size b)) (sym long) apart in
+          ap (λ h. device_block (bytes_of h) size b) done.1.2
+          ∙ range_put_apart (bytes_of old.history) left at (length left) (block_place size b) size refl lies (omega arith)
+    ]

@@ -3,9 +3,8 @@ use Rattle.std.proofs.Common.{◌≡◌, ℕ, ◌+◌, ◌≤◌, Bool, true, fa
 use Rattle.std.specs.Prelude.{if◌then◌else◌, is_err, is_some, IfSome, OnErr, OnOk, Result, Ok, Err}
 use Rattle.std.specs.Option.{option_map, option_or}
 use Rattle.std.specs.FinMap.{get}
+use Rattle.qx_outside.specs.Outside.{Outside}
 use Rattle.qx_outside.specs.Causes.{StaysWhereTold}
-use Rattle.qx_outside.specs.Trail.{History}
-use Rattle.qx_outside.specs.declared.event.Attachment.{Attachment}
 use Rattle.qx_cache.specs.CacheState.{CacheState, aside_of, change_of, is_kept, kept_with}
 use Rattle.qx_cache.specs.Calls.{Reads}
 use Rattle.qx_cache.proofs.BlockMeanings.{chosen}
@@ -37,47 +36,47 @@ pub changed-bytes : (change frozen : Option (List ℕ)) (held : Bool) (device by
 changed-bytes (Some now) frozen held device bytes is same = same
 changed-bytes None frozen held device bytes is same = absurd (cc is)
 
-module _ {H : Type 0} (tells : H → Bool) (history : H → History) (extent dev_reads : H → Option ℕ) where
+module _ {H : Type 0} (outside : H → Outside) where
   -- a changed block is there
-  pub reads-changed : (c : CacheState H) (b : ℕ) → is_some (change_of c b) ≡ true → Reads tells history extent dev_reads c b true c
+  pub reads-changed : (c : CacheState H) (b : ℕ) → is_some (change_of c b) ≡ true → Reads outside c b true c
   reads-changed c b is = record {
     ok = λ _ i. record c { kept = back i };
     err = λ e. absurd (cc e);
     reads = λ _. read (is_some (change_of c b)) is;
     reads_err = λ _. refl;
-    extent_same = told_same (extent c.host);
+    extent_same = told_same (outside c.host).extent;
     idles = record { before = λ told. told; step = λ _. refl };
   } where
     back : c.kept ≡ (if is_some (change_of c b) then c.kept else kept_with c.kept b)
     back = sym (ap (λ t. if t then c.kept else kept_with c.kept b) is)
 
-    read : (t : Bool) → t ≡ true → dev_reads c.host ≡ (if t then dev_reads c.host else if is_kept c.kept b then dev_reads c.host else option_map (λ n. n + 1) (dev_reads c.host))
+    read : (t : Bool) → t ≡ true → (outside c.host).dev_reads ≡ (if t then (outside c.host).dev_reads else if is_kept c.kept b then (outside c.host).dev_reads else option_map (λ n. n + 1) (outside c.host).dev_reads)
     read true is = refl
     read false is = absurd (cc is)
 
   -- so is the kept one
-  pub reads-kept : (c : CacheState H) (b : ℕ) → length c.kept ≤ 1 → is_kept c.kept b ≡ true → Reads tells history extent dev_reads c b true c
+  pub reads-kept : (c : CacheState H) (b : ℕ) → length c.kept ≤ 1 → is_kept c.kept b ≡ true → Reads outside c b true c
   reads-kept c b few is = record {
     ok = λ _ i. record c { kept = back (is_some (change_of c b)) i };
     err = λ e. absurd (cc e);
     reads = λ _. read (is_some (change_of c b)) (is_kept c.kept b) is;
     reads_err = λ _. refl;
-    extent_same = told_same (extent c.host);
+    extent_same = told_same (outside c.host).extent;
     idles = record { before = λ told. told; step = λ _. refl };
   } where
     back : (t : Bool) → c.kept ≡ (if t then c.kept else kept_with c.kept b)
     back true = refl
     back false = kept-again c.kept b few is
 
-    read : (t u : Bool) → u ≡ true → dev_reads c.host ≡ (if t then dev_reads c.host else if u then dev_reads c.host else option_map (λ n. n + 1) (dev_reads c.host))
+    read : (t u : Bool) → u ≡ true → (outside c.host).dev_reads ≡ (if t then (outside c.host).dev_reads else if u then (outside c.host).dev_reads else option_map (λ n. n + 1) (outside c.host).dev_reads)
     read true u is = refl
     read false true is = refl
     read false false is = absurd (cc is)
 
 -- what no call changes stays, where the console does
-pub same-aside : {H : Type 0} (attached : H → Option (List Attachment)) (con_faults : H → ℕ) (c : CacheState H) (host : H) (kept : List ℕ) → attached host ≡ attached c.host → con_faults host ≡ con_faults c.host
-    → aside_of attached con_faults (record c { host = host; kept = kept }) ≡ aside_of attached con_faults c
-same-aside attached con_faults c host kept paths console = λ i. record (aside_of attached con_faults c) { attached = paths i; con_faults = console i }
+pub same-aside : {H : Type 0} (outside : H → Outside) (c : CacheState H) (host : H) (kept : List ℕ) → (outside host).attached ≡ (outside c.host).attached → (outside host).con_faults ≡ (outside c.host).con_faults
+    → aside_of outside (record c { host = host; kept = kept }) ≡ aside_of outside c
+same-aside outside c host kept paths console = λ i. record (aside_of outside c) { attached = paths i; con_faults = console i }
 
 -- a block that isn't changed is in neither map
 pub unchanged : {H : Type 0} (c : CacheState H) (b : ℕ) → is_some (change_of c b) ≡ false → (get c.changes b ≡ None) × (get c.frozen_changes b ≡ None)

@@ -1,11 +1,12 @@
 -- What each step leaves of a cache's coherence.
-use Rattle.std.proofs.Common.{◌≡◌, ◌≢◌, ℕ, ◌<◌, ◌≤◌, Bool, true, false, not, ◌&&◌, ◌||◌, List, [], ◌∷◌, length, Option, None, Some, refl, sym, ◌∙◌, ap, subst, arith}
+use Rattle.std.proofs.Common.{◌≡◌, ◌≢◌, ℕ, ◌<◌, ◌≤◌, Bool, true, false, not, ◌&&◌, ◌||◌, List, [], ◌∷◌, length, None, Some, refl, sym, ◌∙◌, ap, subst, arith}
 use Rattle.std.specs.Prelude.{◌==◌, if◌then◌else◌, IsTrue, is_some, replicate, slice_set}
 use Rattle.std.proofs.lemmas.Bool.{eqb-true, eq-eqb, or_right}
 use Rattle.std.proofs.lemmas.List.{length-set, length-replicate}
 use Rattle.std.proofs.lemmas.List.Sums.{length-filter, count_by-le-length}
 use Rattle.std.specs.Ordering.{nat_cmp}
 use Rattle.std.specs.FinMap.{FinMap, contains_key, empty, get, get-empty, insert, remove}
+use Rattle.qx_outside.specs.Outside.{Outside}
 use Rattle.qx_outside.specs.Causes.{StaysWhereTold}
 use Rattle.qx_outside.proofs.ToldLengths.{told_after}
 use Rattle.qx_blockset.specs.Members.{has}
@@ -67,10 +68,10 @@ kept-fewer kept b = omega (arith, length-filter (λ k. not (k == b)) kept, count
 pub kept-one : (b q : ℕ) → is_kept (b ∷ []) q ≡ true → q ≡ b
 kept-one b q is = elim (q == b) as (λ t. (q == b) ≡ t → (t || false) ≡ true → q ≡ b) [ true ↦ λ e _. eqb-true q b e | false ↦ λ e h. absurd (cc h) ] refl is
 
-module _ {H : Type 0} {extent : H → Option ℕ} where
+module _ {H : Type 0} {outside : H → Outside} where
   -- a new cache
-  pub coherent-new : (host : H) (size : ℕ) (s : SpaceState) → IsBlockSize size → IsConsistent s → ((b : ℕ) → is_private_in s b ≡ false) → s.is_frozen ≡ false → HasRoom (extent host) size (limit_in s)
-      → IsCoherent extent (record { host = host; size = size; space = s; changes = empty; frozen_changes = empty; kept = [] })
+  pub coherent-new : (host : H) (size : ℕ) (s : SpaceState) → IsBlockSize size → IsConsistent s → ((b : ℕ) → is_private_in s b ≡ false) → s.is_frozen ≡ false → HasRoom (outside host).extent size (limit_in s)
+      → IsCoherent outside (record { host = host; size = size; space = s; changes = empty; frozen_changes = empty; kept = [] })
   coherent-new host size s sized consistent clean unfrozen room = record {
     size = sized;
     space = consistent;
@@ -87,7 +88,7 @@ module _ {H : Type 0} {extent : H → Option ℕ} where
   }
 
   -- another device of the same length
-  pub coherent-host : (c : CacheState H) (host : H) → IsCoherent extent c → StaysWhereTold (extent c.host) (extent host) → IsCoherent extent (with_host c host)
+  pub coherent-host : (c : CacheState H) (host : H) → IsCoherent outside c → StaysWhereTold (outside c.host).extent (outside host).extent → IsCoherent outside (with_host c host)
   coherent-host c host k stays = record {
     size = k.size;
     space = k.space;
@@ -100,11 +101,11 @@ module _ {H : Type 0} {extent : H → Option ℕ} where
     kept_few = k.kept_few;
     kept_clean = k.kept_clean;
     kept_user = k.kept_user;
-    room = told_after (extent c.host) (extent host) _ stays k.room;
+    room = told_after (outside c.host).extent (outside host).extent _ stays k.room;
   }
 
   -- a held block that isn't changed is kept alone
-  pub coherent-kept : (c : CacheState H) (b : ℕ) → IsCoherent extent c → is_held c.space b ≡ true → get c.changes b ≡ None → get c.frozen_changes b ≡ None → IsCoherent extent (record c { kept = b ∷ [] })
+  pub coherent-kept : (c : CacheState H) (b : ℕ) → IsCoherent outside c → is_held c.space b ≡ true → get c.changes b ≡ None → get c.frozen_changes b ≡ None → IsCoherent outside (record c { kept = b ∷ [] })
   coherent-kept c b k held clean frozen_clean = record {
     size = k.size;
     space = k.space;
@@ -121,7 +122,7 @@ module _ {H : Type 0} {extent : H → Option ℕ} where
   }
 
   -- a free block is taken
-  pub coherent-taken : (c : CacheState H) (b : ℕ) → IsCoherent extent c → IsFree c.space b → IsConsistent (space.with_taken c.space b) → IsCoherent extent (with_taken c b)
+  pub coherent-taken : (c : CacheState H) (b : ℕ) → IsCoherent outside c → IsFree c.space b → IsConsistent (space.with_taken c.space b) → IsCoherent outside (with_taken c b)
   coherent-taken c b k free consistent =
       let none = unheld-parts (has c.space.working b) (has c.space.frozen b) (has c.space.durable b) free.unheld in
       let same_limit : length (slice_set c.space.working b true) ≡ length c.space.working = length-set c.space.working b true in
@@ -145,13 +146,13 @@ module _ {H : Type 0} {extent : H → Option ℕ} where
             let others = kept-others c.kept b q is in
             (put-none c.changes b q (replicate c.size 0) others.1 (k.kept_clean q others.0).0, (k.kept_clean q others.0).1);
         kept_user = λ q is. let user = k.kept_user q (kept-others c.kept b q is).0 in (user.0, rw same_limit user.1);
-        room = subst (λ n. HasRoom (extent c.host) c.size n) (sym same_limit) k.room;
+        room = subst (λ n. HasRoom (outside c.host).extent c.size n) (sym same_limit) k.room;
       } where
         kept_works : (q : ℕ) → (q == b) ≡ false → has (slice_set c.space.working b true) q ≡ true → has c.space.working q ≡ true
         kept_works q e is = sym (works-set c.space b q true free.below ∙ ap (λ t. if t then true else has c.space.working q) e) ∙ is
 
   -- the working tree gives a block up
-  pub coherent-released : (c : CacheState H) (b : ℕ) → IsCoherent extent c → has c.space.working b ≡ true → IsConsistent (space.without c.space b) → IsCoherent extent (with_released c b)
+  pub coherent-released : (c : CacheState H) (b : ℕ) → IsCoherent outside c → has c.space.working b ≡ true → IsConsistent (space.without c.space b) → IsCoherent outside (with_released c b)
   coherent-released c b k works consistent =
       let low : b < limit_in c.space = has-below c.space.working b works in
       let same_limit : length (slice_set c.space.working b false) ≡ length c.space.working = length-set c.space.working b false in
@@ -167,7 +168,7 @@ module _ {H : Type 0} {extent : H → Option ℕ} where
         kept_few = k.kept_few;
         kept_clean = λ q is. (gone-none c.changes b q (k.kept_clean q is).0, (k.kept_clean q is).1);
         kept_user = λ q is. let user = k.kept_user q is in (user.0, rw same_limit user.1);
-        room = subst (λ n. HasRoom (extent c.host) c.size n) (sym same_limit) k.room;
+        room = subst (λ n. HasRoom (outside c.host).extent c.size n) (sym same_limit) k.room;
       } where
         before : (q : ℕ) → b < limit_in c.space → has (slice_set c.space.working b false) q ≡ true → has c.space.working q ≡ true
         before q low is =
@@ -181,7 +182,7 @@ module _ {H : Type 0} {extent : H → Option ℕ} where
             ] refl
 
   -- a changed block of the working tree gets other bytes of as many
-  pub coherent-edited : (c : CacheState H) (b : ℕ) (bytes : List ℕ) → IsCoherent extent c → contains_key c.changes b ≡ true → length bytes ≡ c.size → IsCoherent extent (record c { changes = insert c.changes b bytes })
+  pub coherent-edited : (c : CacheState H) (b : ℕ) (bytes : List ℕ) → IsCoherent outside c → contains_key c.changes b ≡ true → length bytes ≡ c.size → IsCoherent outside (record c { changes = insert c.changes b bytes })
   coherent-edited c b bytes k there long = record {
     size = k.size;
     space = k.space;
@@ -200,7 +201,7 @@ module _ {H : Type 0} {extent : H → Option ℕ} where
   }
 
   -- a block of the frozen tree was written
-  pub coherent-written : (c : CacheState H) (host : H) (b : ℕ) → IsCoherent extent c → IsTrue (contains_key c.frozen_changes b) → StaysWhereTold (extent c.host) (extent host) → IsCoherent extent (with_written c host b)
+  pub coherent-written : (c : CacheState H) (host : H) (b : ℕ) → IsCoherent outside c → IsTrue (contains_key c.frozen_changes b) → StaysWhereTold (outside c.host).extent (outside host).extent → IsCoherent outside (with_written c host b)
   coherent-written c host b k there stays = record {
     size = k.size;
     space = k.space;
@@ -213,14 +214,14 @@ module _ {H : Type 0} {extent : H → Option ℕ} where
     kept_few = k.kept_few;
     kept_clean = λ q is. ((k.kept_clean q is).0, gone-none c.frozen_changes b q (k.kept_clean q is).1);
     kept_user = k.kept_user;
-    room = told_after (extent c.host) (extent host) _ stays k.room;
+    room = told_after (outside c.host).extent (outside host).extent _ stays k.room;
   } where
     still : (q : ℕ) → contains_key (remove c.frozen_changes b) q ≡ true → contains_key c.frozen_changes q ≡ true
     still q is =
         elim (q == b) as (λ t. (if t then false else contains_key c.frozen_changes q) ≡ true → contains_key c.frozen_changes q ≡ true) [ true ↦ λ e. absurd (cc e) | false ↦ λ e. e ] (sym (there-gone c.frozen_changes b q) ∙ is)
 
   -- the frozen tree is the durable one
-  pub coherent-thawed : (c : CacheState H) → IsCoherent extent c → c.space.is_frozen ≡ true → c.frozen_changes ≡ empty → IsConsistent (space.with_thawed c.space) → IsCoherent extent (with_thawed c)
+  pub coherent-thawed : (c : CacheState H) → IsCoherent outside c → c.space.is_frozen ≡ true → c.frozen_changes ≡ empty → IsConsistent (space.with_thawed c.space) → IsCoherent outside (with_thawed c)
   coherent-thawed c k frozen written consistent = record {
     size = k.size;
     space = consistent;

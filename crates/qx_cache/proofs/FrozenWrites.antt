@@ -5,7 +5,8 @@ use Rattle.std.specs.Option.{option_or}
 use Rattle.std.specs.FinMap.{get}
 use Rattle.qx_bytes.specs.Ranges.{put_at}
 use Rattle.qx_bytes.proofs.Puts.{range_put_same}
-use Rattle.qx_outside.specs.Trail.{History, wrote, bytes_of}
+use Rattle.qx_outside.specs.Outside.{Outside}
+use Rattle.qx_outside.specs.Trail.{wrote, bytes_of}
 use Rattle.qx_outside.specs.Calls.{Did, Writes}
 use Rattle.qx_outside.proofs.ToldLengths.{told_weaker}
 use Rattle.qx_patch.specs.PatchState.{IsLeast}
@@ -29,7 +30,7 @@ clean-parts : (change frozen : Option (List ℕ)) → option_or change frozen �
 clean-parts None frozen is = is
 clean-parts (Some x) frozen is = absurd (cc is)
 
-module _ {H : Type 0} {extent : H → Option ℕ} (c : CacheState H) (b : ℕ) (bytes : List ℕ) (k : IsCoherent extent c) (least : IsLeast c.frozen_changes b) (there : get c.frozen_changes b ≡ Some bytes) where
+module _ {H : Type 0} {outside : H → Outside} (c : CacheState H) (b : ℕ) (bytes : List ℕ) (k : IsCoherent outside c) (least : IsLeast c.frozen_changes b) (there : get c.frozen_changes b ≡ Some bytes) where
   -- some tree holds it
   pub next-held : is_held c.space b ≡ true
   next-held = (frozen-held (has c.space.working b) (has c.space.frozen b) (has c.space.durable b) (k.frozen_changed b least.there).0).0
@@ -60,22 +61,22 @@ module _ {H : Type 0} {extent : H → Option ℕ} (c : CacheState H) (b : ℕ) (
   clean-apart q clean same = absurd (cc (ap (get c.frozen_changes) (sym same) ∙ clean-parts (get c.changes q) (get c.frozen_changes q) clean, there))
 
   -- its place lies within the device
-  pub next-within : IfSome (extent c.host) (λ len. block_place c.size b + length bytes ≤ len)
+  pub next-within : IfSome (outside c.host).extent (λ len. block_place c.size b + length bytes ≤ len)
   next-within =
-      told_weaker (extent c.host) (λ len. block_place c.size (limit_in c.space) + 0x200 ≤ len) (λ len. block_place c.size b + length bytes ≤ len)
+      told_weaker (outside c.host).extent (λ len. block_place c.size (limit_in c.space) + 0x200 ≤ len) (λ len. block_place c.size b + length bytes ≤ len)
       (λ len room. let next = place-next c.size b (limit_in c.space) (held-user c.space b k.space next-held).1 in let long = is-next.long in omega arith) k.room
 
-  module _ (tells : H → Bool) (history : H → History) (law : (s : H) → IsTrue (tells s) → extent s ≡ Some (length (bytes_of (history s)))) (host : H) where
+  module _ (law : (s : H) → IsTrue (outside s).tells → (outside s).extent ≡ Some (length (bytes_of (outside s).history))) (host : H) where
     -- a write to its place leaves the other blocks
-    pub others-stay : Writes tells history (block_place c.size b) bytes c.host host → IsTrue (tells host) → (q : ℕ) → q ≢ b → device_block (bytes_of (history host)) c.size q ≡ device_block (bytes_of (history c.host)) c.size q
+    pub others-stay : Writes (block_place c.size b) bytes (outside c.host) (outside host) → IsTrue (outside host).tells → (q : ℕ) → q ≢ b → device_block (bytes_of (outside host).history) c.size q ≡ device_block (bytes_of (outside c.host).history) c.size q
     others-stay w told q differ =
-        block-apart tells history extent law (block_place c.size b) bytes c.host host w next-within told c.size q
+        block-apart (block_place c.size b) bytes (outside c.host) (outside host) (law c.host) w next-within told c.size q
         (subst (λ n. (block_place c.size q + c.size ≤ block_place c.size b) ⊎ (block_place c.size b + n ≤ block_place c.size q)) (sym is-next.long) (places-apart c.size q b differ))
 
     -- and one that was done puts its bytes there
-    pub next-stands : Did tells history (wrote (block_place c.size b) bytes bytes true) c.host host → IsTrue (tells host) → device_block (bytes_of (history host)) c.size b ≡ bytes
+    pub next-stands : Did (wrote (block_place c.size b) bytes bytes true) (outside c.host) (outside host) → IsTrue (outside host).tells → device_block (bytes_of (outside host).history) c.size b ≡ bytes
     next-stands d told =
-        let room : block_place c.size b + length bytes ≤ length (bytes_of (history c.host)) = subst (λ o. IfSome o (λ len. block_place c.size b + length bytes ≤ len)) (law c.host (d.before told)) next-within in
+        let room : block_place c.size b + length bytes ≤ length (bytes_of (outside c.host).history) = subst (λ o. IfSome o (λ len. block_place c.size b + length bytes ≤ len)) (law c.host (d.before told)) next-within in
         ap (λ h. device_block (bytes_of h) c.size b) (d.step told)
-        ∙ subst (λ n. slice_range (put_at (bytes_of (history c.host)) (block_place c.size b) bytes) (block_place c.size b) (block_place c.size b + n) ≡ bytes) is-next.long
-        (range_put_same (bytes_of (history c.host)) bytes (block_place c.size b) (length bytes) refl (omega arith))
+        ∙ subst (λ n. slice_range (put_at (bytes_of (outside c.host).history) (block_place c.size b) bytes) (block_place c.size b) (block_place c.size b + n) ≡ bytes) is-next.long
+        (range_put_same (bytes_of (outside c.host).history) bytes (block_place c.size b) (length bytes) refl (omega arith))

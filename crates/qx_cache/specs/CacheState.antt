@@ -5,8 +5,9 @@ use Rattle.std.specs.Option.{option_or}
 use Rattle.std.specs.Ordering.{nat_cmp}
 use Rattle.std.specs.FinMap.{FinMap, get, contains_key, insert, remove, empty, code}
 use Rattle.std.specs.Coded.{Coded, code_by, coded×, coded_ℕ, coded_bool, coded_list}
+use Rattle.qx_outside.specs.Outside.{Outside}
 use Rattle.qx_outside.specs.declared.event.Attachment.{Attachment}
-use Rattle.qx_outside.specs.Trail.{History, bytes_of}
+use Rattle.qx_outside.specs.Trail.{bytes_of}
 use Rattle.qx_alloc.specs.SpaceState.{SpaceState, free_in, is_held, is_private_in, limit_in}
 use Rattle.qx_alloc.specs.SpaceState as space
 use Rattle.qx_blockset.specs.Members.{Members, has}
@@ -57,8 +58,8 @@ abbrev pub bytes_over : {H : Type 0} → List ℕ → CacheState H → ℕ → L
 bytes_over device c b = unwrap_or (change_of c b) (if is_held c.space b then device_block device c.size b else [])
 
 -- what the cache means as blocks: of those that the working tree alone holds, the changed ones are ready
-abbrev pub state_of : {H : Type 0} → (H → Bool) → (H → History) → CacheState H → BlockState
-state_of tells history c = record {
+abbrev pub state_of : {H : Type 0} → (H → Outside) → CacheState H → BlockState
+state_of outside c = record {
   holdings = record {
     size = c.size;
     count = limit_in c.space;
@@ -68,12 +69,12 @@ state_of tells history c = record {
     ready = contains_key c.changes;
     free = free_in c.space;
   };
-  tells = tells c.host;
-  bytes = bytes_over (bytes_of (history c.host)) c;
-  history = history c.host;
+  tells = (outside c.host).tells;
+  bytes = bytes_over (bytes_of (outside c.host).history) c;
+  history = (outside c.host).history;
 }
 
--- what no call on blocks changes: where the user blocks begin, the blocks of the frozen and of the durable tree, the changed ones of the frozen tree with their bytes, what was attached, and how often the console failed
+-- what no call on blocks changes: where the user blocks begin, the blocks of the frozen and of the durable tree, the changed ones of the frozen tree with their bytes, what was outside, and how often the console failed
 pub record CacheAside : Type 0 where
   pub first_user : ℕ
   pub frozen : Members
@@ -84,15 +85,15 @@ pub record CacheAside : Type 0 where
   pub con_faults : ℕ
 
 -- what a cache has of these
-abbrev pub aside_of : {H : Type 0} → (H → Option (List Attachment)) → (H → ℕ) → CacheState H → CacheAside
-aside_of attached con_faults c = record {
+abbrev pub aside_of : {H : Type 0} → (H → Outside) → CacheState H → CacheAside
+aside_of outside c = record {
   first_user = c.space.first_user;
   frozen = c.space.frozen;
   durable = c.space.durable;
   is_frozen = c.space.is_frozen;
   frozen_changes = c.frozen_changes;
-  attached = attached c.host;
-  con_faults = con_faults c.host;
+  attached = (outside c.host).attached;
+  con_faults = (outside c.host).con_faults;
 }
 
 -- ---- kept blocks

@@ -2,8 +2,9 @@
 use Rattle.std.specs.Prelude.{◌≡◌, ℕ, ◌+◌, ◌≤◌, ◌<◌, Bool, true, false, List, ◌⊎◌, length, IsTrue, is_some, Option, Some, None, if◌then◌else◌}
 use Rattle.std.specs.Option.{option_map}
 use Rattle.std.specs.FinMap.{get}
+use Rattle.qx_outside.specs.Outside.{Outside}
 use Rattle.qx_outside.specs.Causes.{StaysWhereTold}
-use Rattle.qx_outside.specs.Trail.{History, wrote, bytes_of}
+use Rattle.qx_outside.specs.Trail.{wrote, bytes_of}
 use Rattle.qx_outside.specs.Calls.{Did, FailsToWrite, Idles}
 use Rattle.qx_patch.specs.PatchState.{IsLeast}
 use Rattle.qx_alloc.specs.SpaceState.{limit_in}
@@ -23,13 +24,13 @@ abbrev pub reads_after : {H : Type 0} → CacheState H → ℕ → Option ℕ �
 reads_after c b reads = if is_some (change_of c b) then reads else if is_kept c.kept b then reads else option_map (λ n. n + 1) reads
 
 -- block b was read, well or not: only the device and what is kept may differ, and the device was asked for no more than a read
-pub record Reads {H : Type 0} (tells : H → Bool) (history : H → History) (extent dev_reads : H → Option ℕ) (old : CacheState H) (b : ℕ) (good : Bool) (new : CacheState H) : Type 0 where
+pub record Reads {H : Type 0} (outside : H → Outside) (old : CacheState H) (b : ℕ) (good : Bool) (new : CacheState H) : Type 0 where
   pub ok : IsTrue good → new ≡ after_read old new.host b
   pub err : good ≡ false → new ≡ with_host old new.host
-  pub reads : IsTrue good → dev_reads new.host ≡ reads_after old b (dev_reads old.host)
-  pub reads_err : good ≡ false → dev_reads new.host ≡ dev_reads old.host
-  pub extent_same : StaysWhereTold (extent old.host) (extent new.host)
-  pub idles : Idles tells history old.host new.host
+  pub reads : IsTrue good → (outside new.host).dev_reads ≡ reads_after old b (outside old.host).dev_reads
+  pub reads_err : good ≡ false → (outside new.host).dev_reads ≡ (outside old.host).dev_reads
+  pub extent_same : StaysWhereTold (outside old.host).extent (outside new.host).extent
+  pub idles : Idles (outside old.host) (outside new.host)
 
 -- the block that is written next: the least changed one of the frozen tree, which the working tree doesn't change and the durable tree never holds
 pub record IsNext {H : Type 0} (c : CacheState H) (block : ℕ) (bytes : List ℕ) : Type 0 where
@@ -42,13 +43,13 @@ pub record IsNext {H : Type 0} (c : CacheState H) (block : ℕ) (bytes : List �
   pub frozen : Has c.space.frozen block
   pub undurable : has c.space.durable block ≡ false
 
-module _ {H : Type 0} (tells : H → Bool) (history : H → History) where
+module _ {H : Type 0} (outside : H → Outside) where
   -- the next block's bytes were put at its place, and it is changed no more
   pub record WritesNext (old new : CacheState H) : Type 0 where
     pub block : ℕ
     pub bytes : List ℕ
     pub next : IsNext old block bytes
-    pub did : Did tells history (wrote (block_place old.size block) bytes bytes true) old.host new.host
+    pub did : Did (wrote (block_place old.size block) bytes bytes true) (outside old.host) (outside new.host)
     pub rest : new ≡ with_written old new.host block
 
   -- that failed: anything may stand at its place, and it is changed as before
@@ -56,10 +57,10 @@ module _ {H : Type 0} (tells : H → Bool) (history : H → History) where
     pub block : ℕ
     pub bytes : List ℕ
     pub next : IsNext old block bytes
-    pub failed : FailsToWrite tells history (block_place old.size block) bytes old.host new.host
+    pub failed : FailsToWrite (block_place old.size block) bytes (outside old.host) (outside new.host)
     pub rest : new ≡ with_host old new.host
 
   -- each block is held as before, and has the bytes that it had, where they are told
   pub record HasSameBlocks (old new : CacheState H) : Type 0 where
-    pub holdings : (state_of tells history new).holdings ≡ (state_of tells history old).holdings
-    pub bytes : IsTrue (tells new.host) → (b : ℕ) → bytes_over (bytes_of (history new.host)) new b ≡ bytes_over (bytes_of (history old.host)) old b
+    pub holdings : (state_of outside new).holdings ≡ (state_of outside old).holdings
+    pub bytes : IsTrue (outside new.host).tells → (b : ℕ) → bytes_over (bytes_of (outside new.host).history) new b ≡ bytes_over (bytes_of (outside old.host).history) old b

@@ -1,6 +1,7 @@
 -- What holds of a cache at any moment.
 use Rattle.std.specs.Prelude.{◌≡◌, ℕ, ◌+◌, ◌<◌, ◌≤◌, true, false, List, length, IsTrue, Option, Some, None, IfSome}
 use Rattle.std.specs.FinMap.{contains_key, empty, get}
+use Rattle.qx_outside.specs.Outside.{Outside}
 use Rattle.qx_alloc.specs.SpaceState.{is_private_in, limit_in, IsConsistent}
 use Rattle.qx_blockset.specs.Members.{has, Has}
 use Rattle.qx_blocks.specs.BlockState.{IsBlockSize}
@@ -11,7 +12,7 @@ abbrev pub HasRoom : Option ℕ → ℕ → ℕ → Type 0
 HasRoom extent size count = IfSome extent (λ len. block_place size count + 0x200 ≤ len)
 
 -- the changed blocks are the trees' that may be written, none of them is kept, and the blocks fit on the device
-pub record IsCoherent {H : Type 0} (extent : H → Option ℕ) (c : CacheState H) : Type 0 where
+pub record IsCoherent {H : Type 0} (outside : H → Outside) (c : CacheState H) : Type 0 where
   pub size : IsBlockSize c.size
   pub space : IsConsistent c.space
   -- the blocks that the working tree alone holds are its changes
@@ -26,4 +27,4 @@ pub record IsCoherent {H : Type 0} (extent : H → Option ℕ) (c : CacheState H
   pub kept_few : length c.kept ≤ 1
   pub kept_clean : (b : ℕ) → IsTrue (is_kept c.kept b) → (get c.changes b ≡ None) × (get c.frozen_changes b ≡ None)
   pub kept_user : (b : ℕ) → IsTrue (is_kept c.kept b) → (c.space.first_user ≤ b) × (b < limit_in c.space)
-  pub room : HasRoom (extent c.host) c.size (limit_in c.space)
+  pub room : HasRoom (outside c.host).extent c.size (limit_in c.space)

@@ -1,10 +1,11 @@
 -- What the blocks of a cache mean once one of them was lent for writing.
 use Rattle.std.proofs.Common.{◌≡◌, ℕ, true, List, [], length, drop, refl, ◌∙◌, ap, Option, None, Some}
-use Rattle.std.specs.Prelude.{Bool, IsTrue, is_some, unwrap_or, if◌then◌else◌}
+use Rattle.std.specs.Prelude.{IsTrue, is_some, unwrap_or, if◌then◌else◌}
 use Rattle.std.specs.Option.{option_or}
 use Rattle.std.specs.FinMap.{get, contains_key, insert}
 use Rattle.std.proofs.Math.Seq.{take-append_seam}
-use Rattle.qx_outside.specs.Trail.{History, bytes_of}
+use Rattle.qx_outside.specs.Outside.{Outside}
+use Rattle.qx_outside.specs.Trail.{bytes_of}
 use Rattle.qx_alloc.specs.SpaceState.{is_held}
 use Rattle.qx_blocks.specs.BlockState.{BlockState, Holdings, with_bytes}
 use Rattle.qx_blocks.specs.SlotWrites.{put-same, through-put}
@@ -38,14 +39,14 @@ refit-changed None other device new there same = absurd (cc there)
 refit-changed (Some old) other device new there same = refit-same old new same
 
 -- as many bytes as before change that block's bytes alone
-pub state-edited : {H : Type 0} (tells : H → Bool) (history : H → History) (c : CacheState H) (b : ℕ) (new : List ℕ) → IsTrue ((state_of tells history c).holdings.ready b)
-    → length new ≡ length ((state_of tells history c).bytes b) → state_of tells history (edited_in c b new) ≡ with_bytes (state_of tells history c) b new
-state-edited tells history c b new ready same =
-    let device : ℕ → List ℕ = λ q. if is_held c.space q then device_block (bytes_of (history c.host)) c.size q else [] in
+pub state-edited : {H : Type 0} (outside : H → Outside) (c : CacheState H) (b : ℕ) (new : List ℕ) → IsTrue ((state_of outside c).holdings.ready b)
+    → length new ≡ length ((state_of outside c).bytes b) → state_of outside (edited_in c b new) ≡ with_bytes (state_of outside c) b new
+state-edited outside c b new ready same =
+    let device : ℕ → List ℕ = λ q. if is_held c.space q then device_block (bytes_of (outside c.host).history) c.size q else [] in
     let fits : refit (unwrap_or (get c.changes b) []) new ≡ new = refit-changed (get c.changes b) (get c.frozen_changes b) (device b) new ready same in
-    ap (λ bytes. state_of tells history (record c { changes = insert c.changes b bytes })) fits
-    ∙ same_state (state_of tells history (record c { changes = insert c.changes b new })) (with_bytes (state_of tells history c) b new)
-    (same_holdings (state_of tells history (record c { changes = insert c.changes b new })).holdings (state_of tells history c).holdings refl refl (λ q. refl) (λ q. refl) (λ q. refl)
+    ap (λ bytes. state_of outside (record c { changes = insert c.changes b bytes })) fits
+    ∙ same_state (state_of outside (record c { changes = insert c.changes b new })) (with_bytes (state_of outside c) b new)
+    (same_holdings (state_of outside (record c { changes = insert c.changes b new })).holdings (state_of outside c).holdings refl refl (λ q. refl) (λ q. refl) (λ q. refl)
     (λ q. there-put c.changes b q new ∙ put-same (contains_key c.changes) b q true ready) refl)
     refl
     (λ q. ap (λ o. unwrap_or (option_or o (get c.frozen_changes q)) (device q)) (get-put c.changes b q new)

@@ -24,21 +24,21 @@ fn zeros(size: usize) -> &'static [u8]
 }
 
 impl<H: Dev> Blocks for Cache<H> {
-    ghost state = { state_of H.tells H.history };
+    ghost state = { state_of H.outside };
 
     ghost Aside = { CacheAside };
 
-    ghost aside = { aside_of H.attached H.con_faults };
+    ghost aside = { aside_of H.outside };
 
-    ghost faults = { λ c. H.dev_faults c.host };
+    ghost faults = { λ c. (H.outside c.host).dev_faults };
 
     ghost edited = { edited_in };
 
-    ghost read_leaves = { Reads H.tells H.history H.extent H.dev_reads };
+    ghost read_leaves = { Reads H.outside };
 
     ghost use Rattle.qx_cache.specs.Edits.{state-edited};
 
-    ghost edits = { state-edited H.tells H.history };
+    ghost edits = { state-edited H.outside };
 
     ghost edits_faults = { λ _ _ _. refl };
 
@@ -55,12 +55,12 @@ impl<H: Dev> Blocks for Cache<H> {
 
     fn fresh(&mut self) -> Result<u32, Stop>
         requires { 0 < free_in self.old.space }
-        ensures taken { IfOk result (λ b. state_of H.tells H.history self.new ≡ with_fresh (state_of H.tells H.history self.old) b) }
+        ensures taken { IfOk result (λ b. state_of H.outside self.new ≡ with_fresh (state_of H.outside self.old) b) }
         ensures unheld { IfOk result (λ b. is_held self.old.space b ≡ false) }
         ensures refused { IfErr result (λ stop. stop ≡ Stop.NoMemory) }
-        ensures err { OnErr result (state_of H.tells H.history self.new ≡ state_of H.tells H.history self.old) }
-        ensures aside { aside_of H.attached H.con_faults self.new ≡ aside_of H.attached H.con_faults self.old }
-        ensures faults { H.dev_faults self.new.host ≡ H.dev_faults self.old.host }
+        ensures err { OnErr result (state_of H.outside self.new ≡ state_of H.outside self.old) }
+        ensures aside { aside_of H.outside self.new ≡ aside_of H.outside self.old }
+        ensures faults { (H.outside self.new.host).dev_faults ≡ (H.outside self.old.host).dev_faults }
 
         // Beside the blocks: which block it is, what is kept, and that the device is asked nothing.
         ensures free { IfOk result (λ b. IsFree self.old.space b) }
@@ -77,10 +77,10 @@ impl<H: Dev> Blocks for Cache<H> {
     // A block that the working tree alone holds is always changed.
     fn ready(&mut self, b: u32) -> Result<(), Stop>
         requires { IsTrue (is_private_in self.old.space b) }
-        ensures ok { OnOk result (MakesReady b (state_of H.tells H.history self.old) (state_of H.tells H.history self.new)) }
-        ensures err { OnErr result (Keeps (state_of H.tells H.history self.old) (state_of H.tells H.history self.new)) }
-        ensures aside { aside_of H.attached H.con_faults self.new ≡ aside_of H.attached H.con_faults self.old }
-        ensures cause { HasStopCause (H.dev_faults self.old.host) (H.dev_faults self.new.host) result }
+        ensures ok { OnOk result (MakesReady b (state_of H.outside self.old) (state_of H.outside self.new)) }
+        ensures err { OnErr result (Keeps (state_of H.outside self.old) (state_of H.outside self.new)) }
+        ensures aside { aside_of H.outside self.new ≡ aside_of H.outside self.old }
+        ensures cause { HasStopCause (H.outside self.old.host).dev_faults (H.outside self.new.host).dev_faults result }
 
         ensures kept { OnOk result (self.new.kept ≡ kept_but self.old.kept b) }
         ensures cache { self.new ≡ self.old }
@@ -95,9 +95,9 @@ impl<H: Dev> Blocks for Cache<H> {
 
     fn release(&mut self, b: u32)
         requires { IsTrue (has self.old.space.working b) }
-        ensures released { state_of H.tells H.history self.new ≡ without (state_of H.tells H.history self.old) b }
-        ensures aside { aside_of H.attached H.con_faults self.new ≡ aside_of H.attached H.con_faults self.old }
-        ensures faults { H.dev_faults self.new.host ≡ H.dev_faults self.old.host }
+        ensures released { state_of H.outside self.new ≡ without (state_of H.outside self.old) b }
+        ensures aside { aside_of H.outside self.new ≡ aside_of H.outside self.old }
+        ensures faults { (H.outside self.new.host).dev_faults ≡ (H.outside self.old.host).dev_faults }
 
         ensures cache { self.new ≡ with_released self.old b }
     {

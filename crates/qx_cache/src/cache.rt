@@ -50,7 +50,7 @@ impl<H: Dev> Model for Cache<H> {
 
     ghost view = { λ a. cache_in a.host a.size a.space a.changes a.frozen_changes a.clean };
 
-    ghost invariant = { λ a. IsInOrder H.tells H.history H.extent (cache_in a.host a.size a.space a.changes a.frozen_changes a.clean) a.changes a.frozen_changes a.buffer.items a.spare.items };
+    ghost invariant = { λ a. IsInOrder H.outside (cache_in a.host a.size a.space a.changes a.frozen_changes a.clean) a.changes a.frozen_changes a.buffer.items a.spare.items };
 }
 
 impl<H: Dev> Cache<H> {
@@ -67,9 +67,9 @@ impl<H: Dev> Cache<H> {
         requires clean { (b : ℕ) → is_private_in space b ≡ false }
         requires unfrozen { space.is_frozen ≡ false }
         requires room { 0 < room }
-        requires fits { HasRoom (H.extent host) blocksize (limit_in space) }
+        requires fits { HasRoom (H.outside host).extent blocksize (limit_in space) }
         ensures ok { IfOk result (λ cache. cache ≡ record { host = host; size = blocksize; space = space; changes = empty; frozen_changes = empty; kept = [] }) }
-        ensures coherent { IfOk result (λ cache. IsCoherent H.extent cache) }
+        ensures coherent { IfOk result (λ cache. IsCoherent H.outside cache) }
         ensures err { IfErr result (λ back. back ≡ host) }
     {
         // What any space is consistent in.
@@ -98,14 +98,14 @@ impl<H: Dev> Cache<H> {
     pub fn write_frozen(&mut self) -> Result<bool, Failed>
         ensures none { IfOk result (λ written. (written ≡ false) ↔ (self.old.frozen_changes ≡ empty)) }
         ensures idle { IfOk result (λ written. written ≡ false → self.new ≡ self.old) }
-        ensures wrote { IfOk result (λ written. written ≡ true → WritesNext H.tells H.history self.old self.new) }
+        ensures wrote { IfOk result (λ written. written ≡ true → WritesNext H.outside self.old self.new) }
 
-        ensures failed { OnErr result (FailsToWriteNext H.tells H.history self.old self.new) }
-        ensures cause { HasCause (H.dev_faults self.old.host) (H.dev_faults self.new.host) result }
+        ensures failed { OnErr result (FailsToWriteNext H.outside self.old self.new) }
+        ensures cause { HasCause (H.outside self.old.host).dev_faults (H.outside self.new.host).dev_faults result }
 
-        ensures blocks { HasSameBlocks H.tells H.history self.old self.new }
-        ensures others { LeavesRest H.extent H.attached H.dev_reads H.con_faults self.old.host self.new.host }
-        ensures coherent { IsCoherent H.extent self.new }
+        ensures blocks { HasSameBlocks H.outside self.old self.new }
+        ensures others { LeavesRest (H.outside self.old.host) (H.outside self.new.host) }
+        ensures coherent { IsCoherent H.outside self.new }
     {
         let Some(b) = self.frozen_changes.least() else {
             return Ok(false);
@@ -121,32 +121,32 @@ impl<H: Dev> Cache<H> {
     /// Writes bytes from byte `at` of the device on, outside the user blocks: a leaf of a half, or a superblock. It takes no memory.
     pub fn write_system(&mut self, at: u64, bytes: &[u8]) -> Result<(), Failed>
         requires outside { IsOutsideUsers self.old at (length bytes.now) }
-        requires within { IfSome (H.extent self.old.host) (λ len. at + length bytes.now ≤ len) }
+        requires within { IfSome (H.outside self.old.host).extent (λ len. at + length bytes.now ≤ len) }
 
-        ensures ok { OnOk result (Did H.tells H.history (wrote at bytes.now bytes.now true) self.old.host self.new.host) }
-        ensures err { OnErr result (FailsToWrite H.tells H.history at bytes.now self.old.host self.new.host) }
-        ensures step { Writes H.tells H.history at bytes.now self.old.host self.new.host }
-        ensures cause { HasCause (H.dev_faults self.old.host) (H.dev_faults self.new.host) result }
+        ensures ok { OnOk result (Did (wrote at bytes.now bytes.now true) (H.outside self.old.host) (H.outside self.new.host)) }
+        ensures err { OnErr result (FailsToWrite at bytes.now (H.outside self.old.host) (H.outside self.new.host)) }
+        ensures step { Writes at bytes.now (H.outside self.old.host) (H.outside self.new.host) }
+        ensures cause { HasCause (H.outside self.old.host).dev_faults (H.outside self.new.host).dev_faults result }
 
         ensures rest { self.new ≡ with_host self.old self.new.host }
-        ensures blocks { HasSameBlocks H.tells H.history self.old self.new }
-        ensures others { LeavesRest H.extent H.attached H.dev_reads H.con_faults self.old.host self.new.host }
-        ensures coherent { IsCoherent H.extent self.new }
+        ensures blocks { HasSameBlocks H.outside self.old self.new }
+        ensures others { LeavesRest (H.outside self.old.host) (H.outside self.new.host) }
+        ensures coherent { IsCoherent H.outside self.new }
     {
         self.host.write_at(at, bytes)
     }
 
     /// After an Ok a loss of power leaves what reads of the device give, until later writes. Changed blocks are not written.
     pub fn sync(&mut self) -> Result<(), Failed>
-        ensures ok { OnOk result (Did H.tells H.history (synced true) self.old.host self.new.host) }
-        ensures err { OnErr result (MayDo H.tells H.history (synced false) self.old.host self.new.host) }
-        ensures step { Syncs H.tells H.history self.old.host self.new.host }
-        ensures cause { HasCause (H.dev_faults self.old.host) (H.dev_faults self.new.host) result }
+        ensures ok { OnOk result (Did (synced true) (H.outside self.old.host) (H.outside self.new.host)) }
+        ensures err { OnErr result (MayDo (synced false) (H.outside self.old.host) (H.outside self.new.host)) }
+        ensures step { Syncs (H.outside self.old.host) (H.outside self.new.host) }
+        ensures cause { HasCause (H.outside self.old.host).dev_faults (H.outside self.new.host).dev_faults result }
 
         ensures rest { self.new ≡ with_host self.old self.new.host }
-        ensures blocks { HasSameBlocks H.tells H.history self.old self.new }
-        ensures others { LeavesRest H.extent H.attached H.dev_reads H.con_faults self.old.host self.new.host }
-        ensures coherent { IsCoherent H.extent self.new }
+        ensures blocks { HasSameBlocks H.outside self.old self.new }
+        ensures others { LeavesRest (H.outside self.old.host) (H.outside self.new.host) }
+        ensures coherent { IsCoherent H.outside self.new }
     {
         self.host.sync()
     }
@@ -158,7 +158,7 @@ impl<H: Dev> Cache<H> {
         ensures changes { (b : ℕ) → change_of self.new b ≡ change_of self.old b }
         ensures bytes { (device : List ℕ) (b : ℕ) → bytes_over device self.new b ≡ bytes_over device self.old b }
         ensures free { free_in self.new.space ≡ free_in self.old.space }
-        ensures coherent { IsCoherent H.extent self.new }
+        ensures coherent { IsCoherent H.outside self.new }
     {
         self.space.freeze();
         swap(&mut self.changes, &mut self.frozen_changes);
@@ -171,7 +171,7 @@ impl<H: Dev> Cache<H> {
         ensures thawed { self.new ≡ with_thawed self.old }
         ensures private { (b : ℕ) → is_private_in self.new.space b ≡ is_private_in self.old.space b }
         ensures bytes { (device : List ℕ) (b : ℕ) → IsTrue (has self.old.space.working b) → bytes_over device self.new b ≡ bytes_over device self.old b }
-        ensures coherent { IsCoherent H.extent self.new }
+        ensures coherent { IsCoherent H.outside self.new }
     {
         self.space.thaw_into_durable();
     }
@@ -186,7 +186,7 @@ impl<H: Dev> Cache<H> {
     /// Whether the frozen tree holds the block.
     pub fn frozen_bit(&self, b: u32) -> bool
         ensures frozen { result ≡ has self.now.space.frozen b }
-        ensures coherent { IsCoherent H.extent self.now }
+        ensures coherent { IsCoherent H.outside self.now }
     {
         self.space.frozen_bit(b)
     }
@@ -219,9 +219,9 @@ impl<H: Dev> Cache<H> {
     // Has a block's bytes in memory: a changed block is there, any other is read unless it is kept.
     pub(crate) fn bring(&mut self, b: u32) -> Result<(), Stop>
         requires { IsTrue (is_held self.old.space b) }
-        ensures reads { Reads H.tells H.history H.extent H.dev_reads self.old b (is_ok result) self.new }
-        ensures others { LeavesConsole H.attached H.con_faults self.old.host self.new.host }
-        ensures cause { HasStopCause (H.dev_faults self.old.host) (H.dev_faults self.new.host) result }
+        ensures reads { Reads H.outside self.old b (is_ok result) self.new }
+        ensures others { LeavesConsole (H.outside self.old.host) (H.outside self.new.host) }
+        ensures cause { HasStopCause (H.outside self.old.host).dev_faults (H.outside self.new.host).dev_faults result }
     {
         if self.is_changed(b) || self.is_kept(b) {
             return Ok(());
@@ -241,7 +241,7 @@ impl<H: Dev> Cache<H> {
         requires there { IfNone (change_of self.now b) (IsTrue (is_kept self.now.kept b)) }
         ensures long { length result.now ≡ self.now.size }
         ensures changed { IfSome (change_of self.now b) (λ bytes. result.now ≡ bytes) }
-        ensures told { IsTrue (H.tells self.now.host) → result.now ≡ bytes_over (bytes_of (H.history self.now.host)) self.now b }
+        ensures told { IsTrue (H.outside self.now.host).tells → result.now ≡ bytes_over (bytes_of (H.outside self.now.host).history) self.now b }
     {
         if let Some(bytes) = self.changes.get(b) {
             return bytes;

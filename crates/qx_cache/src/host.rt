@@ -17,45 +17,45 @@ impl<H: Host> Cache<H> {
 
         ensures long { length into.new ≡ length into.old }
         ensures count { IfOk result (λ n. n ≤ length into.new) }
-        ensures ok { IfOk result (λ n. Did H.tells H.history (took (take n into.new)) self.old.host self.new.host) }
-        ensures err { OnErr result (Idles H.tells H.history self.old.host self.new.host) }
-        ensures step { Converses H.tells H.history self.old.host self.new.host }
-        ensures cause { HasCause (H.con_faults self.old.host) (H.con_faults self.new.host) result }
+        ensures ok { IfOk result (λ n. Did (took (take n into.new)) (H.outside self.old.host) (H.outside self.new.host)) }
+        ensures err { OnErr result (Idles (H.outside self.old.host) (H.outside self.new.host)) }
+        ensures step { Converses (H.outside self.old.host) (H.outside self.new.host) }
+        ensures cause { HasCause (H.outside self.old.host).con_faults (H.outside self.new.host).con_faults result }
 
         ensures rest { self.new ≡ with_host self.old self.new.host }
-        ensures blocks { HasSameBlocks H.tells H.history self.old self.new }
-        ensures others { LeavesDevice H.extent H.attached H.dev_reads H.dev_faults self.old.host self.new.host }
-        ensures coherent { IsCoherent H.extent self.new }
+        ensures blocks { HasSameBlocks H.outside self.old self.new }
+        ensures others { LeavesDevice (H.outside self.old.host) (H.outside self.new.host) }
+        ensures coherent { IsCoherent H.outside self.new }
     {
         self.host.take(into)
     }
 
     /// Writes all bytes to the output. After a failure a prefix of them was written.
     pub fn put(&mut self, bytes: &[u8]) -> Result<(), Failed>
-        ensures ok { OnOk result (Did H.tells H.history (gave bytes.now) self.old.host self.new.host) }
-        ensures err { OnErr result (FailsToGive H.tells H.history bytes.now self.old.host self.new.host) }
-        ensures step { Converses H.tells H.history self.old.host self.new.host }
-        ensures cause { HasCause (H.con_faults self.old.host) (H.con_faults self.new.host) result }
+        ensures ok { OnOk result (Did (gave bytes.now) (H.outside self.old.host) (H.outside self.new.host)) }
+        ensures err { OnErr result (FailsToGive bytes.now (H.outside self.old.host) (H.outside self.new.host)) }
+        ensures step { Converses (H.outside self.old.host) (H.outside self.new.host) }
+        ensures cause { HasCause (H.outside self.old.host).con_faults (H.outside self.new.host).con_faults result }
 
         ensures rest { self.new ≡ with_host self.old self.new.host }
-        ensures blocks { HasSameBlocks H.tells H.history self.old self.new }
-        ensures others { LeavesDevice H.extent H.attached H.dev_reads H.dev_faults self.old.host self.new.host }
-        ensures coherent { IsCoherent H.extent self.new }
+        ensures blocks { HasSameBlocks H.outside self.old self.new }
+        ensures others { LeavesDevice (H.outside self.old.host) (H.outside self.new.host) }
+        ensures coherent { IsCoherent H.outside self.new }
     {
         self.host.put(bytes)
     }
 
     /// The moment, in seconds since 1970.
     pub fn now(&mut self) -> Result<u32, Failed>
-        ensures ok { IfOk result (λ moment. Did H.tells H.history (told_moment moment) self.old.host self.new.host) }
-        ensures err { OnErr result (Idles H.tells H.history self.old.host self.new.host) }
-        ensures step { Converses H.tells H.history self.old.host self.new.host }
-        ensures cause { HasCause (H.con_faults self.old.host) (H.con_faults self.new.host) result }
+        ensures ok { IfOk result (λ moment. Did (told_moment moment) (H.outside self.old.host) (H.outside self.new.host)) }
+        ensures err { OnErr result (Idles (H.outside self.old.host) (H.outside self.new.host)) }
+        ensures step { Converses (H.outside self.old.host) (H.outside self.new.host) }
+        ensures cause { HasCause (H.outside self.old.host).con_faults (H.outside self.new.host).con_faults result }
 
         ensures rest { self.new ≡ with_host self.old self.new.host }
-        ensures blocks { HasSameBlocks H.tells H.history self.old self.new }
-        ensures others { LeavesDevice H.extent H.attached H.dev_reads H.dev_faults self.old.host self.new.host }
-        ensures coherent { IsCoherent H.extent self.new }
+        ensures blocks { HasSameBlocks H.outside self.old self.new }
+        ensures others { LeavesDevice (H.outside self.old.host) (H.outside self.new.host) }
+        ensures coherent { IsCoherent H.outside self.new }
     {
         self.host.now()
     }

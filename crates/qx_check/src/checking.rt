@@ -13,11 +13,11 @@ use std::alloc::Global;
 
 /// Says whether a device holds a volume that is right: the verdict that the definitions give on its bytes.
 pub fn check<D: Dev>(alloc: Global, host: &mut D) -> Result<Verdict, CheckFault>
-    ensures says { IsTrue (D.tells host.new) → SaysVerdict (bytes_of (D.history host.old)) result }
-    ensures reads { JustReads D.tells D.history D.attached D.con_faults host.old host.new }
-    ensures later { D.dev_faults host.old ≤ D.dev_faults host.new }
-    ensures device { result ≡ Err faults.Device → Rose (D.dev_faults host.old) (D.dev_faults host.new) }
-    ensures kept { (result ≡ Err faults.Device → ⊥) → D.dev_faults host.new ≡ D.dev_faults host.old }
+    ensures says { IsTrue (D.outside host.new).tells → SaysVerdict (bytes_of (D.outside host.old).history) result }
+    ensures reads { JustReads (D.outside host.old) (D.outside host.new) }
+    ensures later { (D.outside host.old).dev_faults ≤ (D.outside host.new).dev_faults }
+    ensures device { result ≡ Err faults.Device → Rose (D.outside host.old).dev_faults (D.outside host.new).dev_faults }
+    ensures kept { (result ≡ Err faults.Device → ⊥) → (D.outside host.new).dev_faults ≡ (D.outside host.old).dev_faults }
 {
     let Ok(len) = host.len() else {
         return Err(CheckFault::Device);

@@ -1,5 +1,5 @@
 -- Bytes are put into both areas of a volume: what each call leaves.
-use Rattle.std.proofs.Common.{◌≡◌, ℕ, ◌+◌, ◌≤◌, Bool, true, Result, Ok, IsErr, Option, List, length, refl, ◌∙◌, arith}
+use Rattle.std.proofs.Common.{◌≡◌, ℕ, ◌+◌, ◌≤◌, true, Result, Ok, IsErr, Option, List, length, refl, ◌∙◌, arith}
 use Rattle.std.specs.Prelude.{IfSome}
 use Rattle.qx_bytes.proofs.Puts.{length_put}
 use Rattle.qx_geom.specs.declared.area.Which.TheVariants.{First, Second}
@@ -11,7 +11,8 @@ use Rattle.qx_outside.specs.Calls.{Did, Syncs, Writes}
 use Rattle.qx_outside.specs.Causes.{StaysWhereTold}
 use Rattle.qx_outside.specs.Puts.{IsPartOf}
 use Rattle.qx_outside.specs.Ranges.{put_at}
-use Rattle.qx_outside.specs.Trail.{History, wrote, synced}
+use Rattle.qx_outside.specs.Outside.{Outside}
+use Rattle.qx_outside.specs.Trail.{wrote, synced}
 use Rattle.qx_outside.proofs.PuttingMoments.{IsPartOf-whole}
 use Rattle.qx_outside.proofs.ToldLengths.{told_after, told_weaker}
 use Rattle.qx_make.specs.Stages.{Performs, Stage, after_stage, areas_stage}
@@ -38,7 +39,7 @@ module _ (g : Geometry) (e : IsGeometry g) (first second : List ℕ) (first_shor
       let one : length (put_at bytes (area_place g First) first) ≡ length bytes = length_put bytes first (area_place g First) (length first) refl (omega (arith, first_within g e)) in
       length_put (put_at bytes (area_place g First) first) second (area_place g Second) (length second) refl (omega (arith, second_within g e, one)) ∙ one
 
-  module _ (bytes : List ℕ) (long : g.len4 ≤ length bytes) {D : Type 0} (tells : D → Bool) (history : D → History) where
+  module _ (bytes : List ℕ) (long : g.len4 ≤ length bytes) where
     -- the stage
     abbrev stage : Stage
     stage = areas_stage g first second bytes
@@ -50,29 +51,29 @@ module _ (g : Geometry) (e : IsGeometry g) (first second : List ℕ) (first_shor
     second_part = IsPartOf-whole stage.puts (record { at = area_place g Second; bytes = second }) (1, omega arith, refl)
 
     -- the first is written
-    one : (a b : D) → Did tells history (wrote (area_place g First) first first true) a b → Writes tells history (area_place g First) first a b → HasBegun tells history stage (put_at bytes (area_place g First) first) a b
-    one a b did writes = put_in_stage tells history stage (area_place g First) first bytes a a b first_part (omega (arith, first_within g e)) did writes (begin_stage tells history stage a)
+    one : (a b : Outside) → Did (wrote (area_place g First) first first true) a b → Writes (area_place g First) first a b → HasBegun stage (put_at bytes (area_place g First) first) a b
+    one a b did writes = put_in_stage stage (area_place g First) first bytes a a b first_part (omega (arith, first_within g e)) did writes (begin_stage stage a)
 
     -- both are
-    both : (a b c : D) → Did tells history (wrote (area_place g First) first first true) a b → Writes tells history (area_place g First) first a b
-        → Did tells history (wrote (area_place g Second) second second true) b c → Writes tells history (area_place g Second) second b c → HasBegun tells history stage (after_stage stage) a c
+    both : (a b c : Outside) → Did (wrote (area_place g First) first first true) a b → Writes (area_place g First) first a b
+        → Did (wrote (area_place g Second) second second true) b c → Writes (area_place g Second) second b c → HasBegun stage (after_stage stage) a c
     both a b c did writes did_second writes_second =
-        put_in_stage tells history stage (area_place g Second) second (put_at bytes (area_place g First) first) a b c second_part (omega (arith, second_within g e)) did_second writes_second (one a b did writes)
+        put_in_stage stage (area_place g Second) second (put_at bytes (area_place g First) first) a b c second_part (omega (arith, second_within g e)) did_second writes_second (one a b did writes)
 
     module _ {T E : Type 0} where
-      pub first_fails : (result : Result T E) (a b : D) → IsErr result → Writes tells history (area_place g First) first a b → Performs tells history stage result a b
-      first_fails result a b err writes = fail_to_put tells history stage result err (area_place g First) first bytes a a b first_part (omega (arith, first_within g e)) writes (begin_stage tells history stage a)
+      pub first_fails : (result : Result T E) (a b : Outside) → IsErr result → Writes (area_place g First) first a b → Performs stage result a b
+      first_fails result a b err writes = fail_to_put stage result err (area_place g First) first bytes a a b first_part (omega (arith, first_within g e)) writes (begin_stage stage a)
 
-      pub second_fails : (result : Result T E) (a b c : D) → IsErr result → Did tells history (wrote (area_place g First) first first true) a b → Writes tells history (area_place g First) first a b
-          → Writes tells history (area_place g Second) second b c → Performs tells history stage result a c
+      pub second_fails : (result : Result T E) (a b c : Outside) → IsErr result → Did (wrote (area_place g First) first first true) a b → Writes (area_place g First) first a b
+          → Writes (area_place g Second) second b c → Performs stage result a c
       second_fails result a b c err did writes writes_second =
-          fail_to_put tells history stage result err (area_place g Second) second (put_at bytes (area_place g First) first) a b c second_part (omega (arith, second_within g e)) writes_second (one a b did writes)
+          fail_to_put stage result err (area_place g Second) second (put_at bytes (area_place g First) first) a b c second_part (omega (arith, second_within g e)) writes_second (one a b did writes)
 
-      pub both_fail : (result : Result T E) (a b c d : D) → IsErr result → Did tells history (wrote (area_place g First) first first true) a b → Writes tells history (area_place g First) first a b
-          → Did tells history (wrote (area_place g Second) second second true) b c → Writes tells history (area_place g Second) second b c → Syncs tells history c d → Performs tells history stage result a d
-      both_fail result a b c d err did writes did_second writes_second syncs = fail_to_sync tells history stage result err a c d syncs (both a b c did writes did_second writes_second)
+      pub both_fail : (result : Result T E) (a b c d : Outside) → IsErr result → Did (wrote (area_place g First) first first true) a b → Writes (area_place g First) first a b
+          → Did (wrote (area_place g Second) second second true) b c → Writes (area_place g Second) second b c → Syncs c d → Performs stage result a d
+      both_fail result a b c d err did writes did_second writes_second syncs = fail_to_sync stage result err a c d syncs (both a b c did writes did_second writes_second)
 
-      pub both_done : (x : T) (a b c d : D) → Did tells history (wrote (area_place g First) first first true) a b → Writes tells history (area_place g First) first a b
-          → Did tells history (wrote (area_place g Second) second second true) b c → Writes tells history (area_place g Second) second b c
-          → Did tells history (synced true) c d → Syncs tells history c d → Performs {E = E} tells history stage (Ok x) a d
-      both_done x a b c d did writes did_second writes_second synced_now syncs = end_stage tells history stage x a c d synced_now syncs (both a b c did writes did_second writes_second)
+      pub both_done : (x : T) (a b c d : Outside) → Did (wrote (area_place g First) first first true) a b → Writes (area_place g First) first a b
+          → Did (wrote (area_place g Second) second second true) b c → Writes (area_place g Second) second b c
+          → Did (synced true) c d → Syncs c d → Performs {E = E} stage (Ok x) a d
+      both_done x a b c d did writes did_second writes_second synced_now syncs = end_stage stage x a c d synced_now syncs (both a b c did writes did_second writes_second)

@@ -1,5 +1,5 @@
 -- The blocks of a new volume are put piece after piece: what each call leaves.
-use Rattle.std.proofs.Common.{◌≡◌, ℕ, ◌+◌, ◌*◌, ◌≤◌, Bool, true, Result, Ok, IsErr, Option, List, ◌++◌, length, refl, ap, sym, ◌∙◌, subst, arith}
+use Rattle.std.proofs.Common.{◌≡◌, ℕ, ◌+◌, ◌*◌, ◌≤◌, true, Result, Ok, IsErr, Option, List, ◌++◌, length, refl, ap, sym, ◌∙◌, subst, arith}
 use Rattle.std.specs.Prelude.{IfSome}
 use Rattle.std.specs.List.{flat_map, range_with_len}
 use Rattle.std.proofs.Math.Nat.{mul-le-mul_right}
@@ -12,7 +12,8 @@ use Rattle.qx_geom.proofs.VolumeNumbers.{IsGeometry-keeps}
 use Rattle.qx_outside.specs.Calls.{Did, Syncs, Writes}
 use Rattle.qx_outside.specs.Puts.{HasPut, IsAtRest, IsPartOf}
 use Rattle.qx_outside.specs.Ranges.{put_at}
-use Rattle.qx_outside.specs.Trail.{History, wrote, synced}
+use Rattle.qx_outside.specs.Outside.{Outside}
+use Rattle.qx_outside.specs.Trail.{wrote, synced}
 use Rattle.qx_outside.proofs.PuttingMoments.{IsPartOf-taken, put_none}
 use Rattle.qx_outside.proofs.Throughout.{reaches_moves}
 use Rattle.qx_outside.proofs.ToldLengths.{told_weaker}
@@ -86,38 +87,38 @@ module _ (g : Geometry) (e : IsGeometry g) (order : Order) (moment : ℕ) where
         omega (arith, length-made count first, length-made (top_block g + 1) 0, enough))
         (parts_within (made_block_bytes g order moment) g.blocksize (length-made_block g e order moment) first count (top_block g + 1) within))
 
-    module _ {D : Type 0} (tells : D → Bool) (history : D → History) where
-      pub no_piece : (a : D) → HasBegun tells history stage (so_far 0) a a
-      no_piece a = subst (λ (now : List ℕ). HasBegun tells history stage now a a) (sym so_far-none) (begin_stage tells history stage a)
+    module _ where
+      pub no_piece : (a : Outside) → HasBegun stage (so_far 0) a a
+      no_piece a = subst (λ (now : List ℕ). HasBegun stage now a a) (sym so_far-none) (begin_stage stage a)
 
-      pub one_piece : (first count : ℕ) (piece : List ℕ) (a b c : D) → piece ≡ parts first count → first + count ≤ top_block g + 1
-          → Did tells history (wrote (0x3000 + first * g.blocksize) piece piece true) b c → Writes tells history (0x3000 + first * g.blocksize) piece b c
-          → HasBegun tells history stage (so_far first) a b → HasBegun tells history stage (so_far (first + count)) a c
+      pub one_piece : (first count : ℕ) (piece : List ℕ) (a b c : Outside) → piece ≡ parts first count → first + count ≤ top_block g + 1
+          → Did (wrote (0x3000 + first * g.blocksize) piece piece true) b c → Writes (0x3000 + first * g.blocksize) piece b c
+          → HasBegun stage (so_far first) a b → HasBegun stage (so_far (first + count)) a c
       one_piece first count piece a b c is within did writes begun =
-          subst (λ (now : List ℕ). HasBegun tells history stage now a c) (so_far-more first count piece is within)
-          (put_in_stage tells history stage (0x3000 + first * g.blocksize) piece (so_far first) a b c (piece_part first count piece is within)
+          subst (λ (now : List ℕ). HasBegun stage now a c) (so_far-more first count piece is within)
+          (put_in_stage stage (0x3000 + first * g.blocksize) piece (so_far first) a b c (piece_part first count piece is within)
           (omega (arith, blocks_room first count within, ap length is, length-made count first)) did writes begun)
 
       module _ {T E : Type 0} where
-        pub piece_fails : (result : Result T E) (first count : ℕ) (piece : List ℕ) (a b c : D) → IsErr result → piece ≡ parts first count → first + count ≤ top_block g + 1
-            → Writes tells history (0x3000 + first * g.blocksize) piece b c → HasBegun tells history stage (so_far first) a b → PutsAll tells history stage result a c
+        pub piece_fails : (result : Result T E) (first count : ℕ) (piece : List ℕ) (a b c : Outside) → IsErr result → piece ≡ parts first count → first + count ≤ top_block g + 1
+            → Writes (0x3000 + first * g.blocksize) piece b c → HasBegun stage (so_far first) a b → PutsAll stage result a c
         piece_fails result first count piece a b c err is within writes begun =
-            let p = fail_to_put tells history stage result err (0x3000 + first * g.blocksize) piece (so_far first) a b c (piece_part first count piece is within)
+            let p = fail_to_put stage result err (0x3000 + first * g.blocksize) piece (so_far first) a b c (piece_part first count piece is within)
             (omega (arith, blocks_room first count within, ap length is, length-made count first)) writes begun in
-            record { reaches = p.reaches; ok = none_of_err tells history stage result _ err; now = none_of_err tells history stage result _ err; others = p.others }
+            record { reaches = p.reaches; ok = none_of_err stage result _ err; now = none_of_err stage result _ err; others = p.others }
 
-        pub pieces_done : (x : T) (first : ℕ) (a b : D) → first ≡ top_block g + 1 → HasBegun tells history stage (so_far first) a b → PutsAll {E = E} tells history stage (Ok x) a b
+        pub pieces_done : (x : T) (first : ℕ) (a b : Outside) → first ≡ top_block g + 1 → HasBegun stage (so_far first) a b → PutsAll {E = E} stage (Ok x) a b
         pieces_done x first a b all begun =
-            let whole : HasBegun tells history stage (after_stage stage) a b = subst (λ (now : List ℕ). HasBegun tells history stage now a b) so_far-all (subst (λ (n : ℕ). HasBegun tells history stage (so_far n) a b) all begun) in
-            record { reaches = reaches_moves tells history (IsAtRest bytes) (HasPut bytes stage.puts (after_stage stage)) (IsAtRest bytes) (Passes stage) a b whole.moves; ok = whole.moves; now = whole.bytes; others = whole.others }
+            let whole : HasBegun stage (after_stage stage) a b = subst (λ (now : List ℕ). HasBegun stage now a b) so_far-all (subst (λ (n : ℕ). HasBegun stage (so_far n) a b) all begun) in
+            record { reaches = reaches_moves (IsAtRest bytes) (HasPut bytes stage.puts (after_stage stage)) (IsAtRest bytes) (Passes stage) a b whole.moves; ok = whole.moves; now = whole.bytes; others = whole.others }
 
       -- the sync behind them
       module _ {T E : Type 0} where
-        begun_by : (x : T) (a b : D) → PutsAll {E = E} tells history stage (Ok x) a b → HasBegun tells history stage (after_stage stage) a b
+        begun_by : (x : T) (a b : Outside) → PutsAll {E = E} stage (Ok x) a b → HasBegun stage (after_stage stage) a b
         begun_by x a b p = record { moves = p.ok; bytes = p.now; others = p.others }
 
-        pub blocks_sync_fails : (x : T) (result : Result T E) (a b c : D) → IsErr result → PutsAll {E = E} tells history stage (Ok x) a b → Syncs tells history b c → Performs tells history stage result a c
-        blocks_sync_fails x result a b c err p syncs = fail_to_sync tells history stage result err a b c syncs (begun_by x a b p)
+        pub blocks_sync_fails : (x : T) (result : Result T E) (a b c : Outside) → IsErr result → PutsAll {E = E} stage (Ok x) a b → Syncs b c → Performs stage result a c
+        blocks_sync_fails x result a b c err p syncs = fail_to_sync stage result err a b c syncs (begun_by x a b p)
 
-        pub blocks_done : (x y : T) (a b c : D) → PutsAll {E = E} tells history stage (Ok x) a b → Did tells history (synced true) b c → Syncs tells history b c → Performs {E = E} tells history stage (Ok y) a c
-        blocks_done x y a b c p did syncs = end_stage tells history stage y a b c did syncs (begun_by x a b p)
+        pub blocks_done : (x y : T) (a b c : Outside) → PutsAll {E = E} stage (Ok x) a b → Did (synced true) b c → Syncs b c → Performs {E = E} stage (Ok y) a c
+        blocks_done x y a b c p did syncs = end_stage stage y a b c did syncs (begun_by x a b p)

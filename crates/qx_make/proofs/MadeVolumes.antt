@@ -1,5 +1,5 @@
 -- What the maker's stages leave for its options: at each moment, and at the end.
-use Rattle.std.proofs.Common.{◌≡◌, ℕ, ◌<◌, ◌≤◌, ◌^◌, inl, inr, Bool, Result, Ok, List, [], ◌∷◌, length, Some, refl, ap, sym, ◌∙◌, subst, arith, append-nil}
+use Rattle.std.proofs.Common.{◌≡◌, ℕ, ◌<◌, ◌≤◌, ◌^◌, inl, inr, Result, Ok, List, [], ◌∷◌, length, Some, refl, ap, sym, ◌∙◌, subst, arith, append-nil}
 use Rattle.qx_geom.specs.declared.area.Which.{Which}
 use Rattle.qx_geom.specs.declared.area.Which.TheVariants.{Second}
 use Rattle.qx_geom.specs.declared.geometry.Geometry.{Geometry}
@@ -9,6 +9,7 @@ use Rattle.qx_geom.proofs.VolumeNumbers.{IsGeometry-of, geometry_of-numbers}
 use Rattle.qx_model.specs.EmptyTree.{empty_tree}
 use Rattle.qx_model.specs.Tree.{Tree}
 use Rattle.qx_outside.specs.Puts.{IsAtRest}
+use Rattle.qx_outside.specs.Outside.{Outside}
 use Rattle.qx_outside.specs.Trail.{Deed, History, took, gave, wrote, synced, sized, told_moment, bytes_of, events_of, input_of, lengths_asked, others_of, output_of, resized}
 use Rattle.qx_outside.proofs.OtherDeeds.{input-others, lengths-others, output-others}
 use Rattle.qx_outside.proofs.PuttingMoments.{IsPutting-rest}
@@ -85,10 +86,10 @@ ready_is_left size t h ready img is no_chance =
     by_pick picks.None e = nothing e
     by_pick picks.Disagree e = absurd (ready.agree e)
 
-pub moments_idle : {D : Type 0} (tells : D → Bool) (history : D → History) (o : MakeOptions) (a : D) → MakesAtEachMoment tells history o a a
-moments_idle tells history o a = record {
+pub moments_idle : (o : MakeOptions) (a : Outside) → MakesAtEachMoment o a a
+moments_idle o a = record {
   before = λ told. told;
-  step = λ told ready. throughout_here (LeavesByMaker (bytes_of (history a)) o.size (tree_for o)) (history a) (ready_is_left o.size (tree_for o) (history a) ready);
+  step = λ told ready. throughout_here (LeavesByMaker (bytes_of a.history) o.size (tree_for o)) a.history (ready_is_left o.size (tree_for o) a.history ready);
 }
 
 -- ---- with the numbers of a volume
@@ -132,16 +133,16 @@ module _ (o : MakeOptions) (g : Geometry) (is_geometry : geometry_for o ≡ Ok g
           no_last = new_last b which (area_number which) (length img) numbers;
         }
 
-    module _ {D : Type 0} (tells : D → Bool) (history : D → History) {T E : Type 0} where
+    module _ {T E : Type 0} where
       -- at each moment
-      pub moments_made : (result : Result T E) (a b : D)
-          → MakesAll tells history o.size (bytes_of (history a)) (made_bytes g o.order o.moment o.size (bytes_of (history a))) (make_stages g o.order o.moment o.size (bytes_of (history a))) result a b → MakesAtEachMoment tells history o a b
+      pub moments_made : (result : Result T E) (a b : Outside)
+          → MakesAll o.size (bytes_of a.history) (made_bytes g o.order o.moment o.size (bytes_of a.history)) (make_stages g o.order o.moment o.size (bytes_of a.history)) result a b → MakesAtEachMoment o a b
       moments_made result a b made = record {
         before = made.reaches.before;
         step = λ told ready.
-            let old = bytes_of (history a) in
+            let old = bytes_of a.history in
             throughout_map (IsInStage (make_stages g o.order o.moment o.size old)) (LeavesByMaker old o.size (tree_for o))
-            (leaves_in_stage old o.size (tree_for o) ready.agree ready.alone g o.order o.moment own_numbers in_time new_sound) (history a) (history b)
+            (leaves_in_stage old o.size (tree_for o) ready.agree ready.alone g o.order o.moment own_numbers in_time new_sound) a.history b.history
             (made.reaches.step told (record { bytes_are = refl; settled = ready.settled }));
       }
 

@@ -1,9 +1,10 @@
 -- The stages that zero the old areas, behind calls that only read.
-use Rattle.std.proofs.Common.{◌≡◌, ℕ, Bool, Result, Ok, Err, IsErr, OnOk, Option, List, [], ◌∷◌, ◌++◌, length, refl, ap, sym, ◌∙◌, subst, arith}
+use Rattle.std.proofs.Common.{◌≡◌, ℕ, Result, Ok, Err, IsErr, OnOk, Option, List, [], ◌∷◌, ◌++◌, length, refl, ap, sym, ◌∙◌, subst, arith}
 use Rattle.std.specs.Prelude.{Contains, IsTrue}
 use Rattle.qx_outside.specs.Calls.{Idles}
 use Rattle.qx_outside.specs.Moments.{HoldsThroughout, Moves, Reaches}
 use Rattle.qx_outside.specs.Puts.{IsAtRest}
+use Rattle.qx_outside.specs.Outside.{Outside}
 use Rattle.qx_outside.specs.Trail.{History, bytes_of, others_of}
 use Rattle.qx_outside.proofs.Throughout.{throughout_here}
 use Rattle.qx_super.specs.declared.choice.Pick.{Pick}
@@ -37,13 +38,13 @@ old_places-read img first second len pick active long read picked is =
     ∙ ap (λ (s : Option Superblock). super_of_pick (pick_of (first_super img) (second_super img)) (first_super img) s) seconds in
     ap (λ (p : Pick). places_by p active) area ∙ ap (λ (s : Option Superblock). places_by (active_area img) s) super
 
-module _ {D : Type 0} (tells : D → Bool) (history : D → History) {T E : Type 0} where
+module _ {T E : Type 0} where
   -- a read that fails
-  pub reading_fails : (old : List ℕ) (result : Result T E) (a b : D) → IsErr result → Idles tells history a b → PerformsAll tells history old (zeroed old (old_places old)) (old_stages old) result a b
+  pub reading_fails : (old : List ℕ) (result : Result T E) (a b : Outside) → IsErr result → Idles a b → PerformsAll old (zeroed old (old_places old)) (old_stages old) result a b
   reading_fails old result a b err idles = record {
     reaches = record {
       before = idles.before;
-      step = λ told rest. subst (λ (h : History). HoldsThroughout (IsInStage (old_stages old)) (history a) h) (sym (idles.step told)) (throughout_here (IsInStage (old_stages old)) (history a) (old_rest_in old (history a) rest));
+      step = λ told rest. subst (λ (h : History). HoldsThroughout (IsInStage (old_stages old)) a.history h) (sym (idles.step told)) (throughout_here (IsInStage (old_stages old)) a.history (old_rest_in old a.history rest));
     };
     ok = on_err result _ err;
     kept_ok = on_err result _ err;
@@ -51,34 +52,34 @@ module _ {D : Type 0} (tells : D → Bool) (history : D → History) {T E : Type
   }
 
   -- stages that are known once the device's bytes are, behind calls that read them
-  module _ (kept all : List ℕ) (stages : List Stage) (a b c : D) (idles : Idles tells history a b) (before : IsTrue (tells c) → IsTrue (tells b)) where
-    pub read_reaches : (result : Result T E) → (IsTrue (tells b) → bytes_of (history b) ≡ kept → PerformsAll tells history kept all stages result b c) → Reaches tells history (IsAtRest kept) (IsInStage stages) a c
+  module _ (kept all : List ℕ) (stages : List Stage) (a b c : Outside) (idles : Idles a b) (before : IsTrue c.tells → IsTrue b.tells) where
+    pub read_reaches : (result : Result T E) → (IsTrue b.tells → bytes_of b.history ≡ kept → PerformsAll kept all stages result b c) → Reaches (IsAtRest kept) (IsInStage stages) a c
     read_reaches result given = record {
       before = λ told. idles.before (before told);
       step = λ told rest.
-          let same : history b ≡ history a = idles.step (before told) in
-          let there : IsAtRest kept (history b) = subst (λ (h : History). IsAtRest kept h) (sym same) rest in
-          subst (λ (h : History). HoldsThroughout (IsInStage stages) h (history c)) same ((given (before told) there.bytes_are).reaches.step told there);
+          let same : b.history ≡ a.history = idles.step (before told) in
+          let there : IsAtRest kept b.history = subst (λ (h : History). IsAtRest kept h) (sym same) rest in
+          subst (λ (h : History). HoldsThroughout (IsInStage stages) h c.history) same ((given (before told) there.bytes_are).reaches.step told there);
     }
 
-    pub read_ok : (result : Result T E) → (IsTrue (tells b) → bytes_of (history b) ≡ kept → PerformsAll tells history kept all stages result b c) → OnOk result (Moves tells history (IsAtRest kept) (IsAtRest all) (IsInStage stages) a c)
+    pub read_ok : (result : Result T E) → (IsTrue b.tells → bytes_of b.history ≡ kept → PerformsAll kept all stages result b c) → OnOk result (Moves (IsAtRest kept) (IsAtRest all) (IsInStage stages) a c)
     read_ok (Err e) given = tt
     read_ok (Ok x) given = record {
       before = λ told. idles.before (before told);
       step = λ told rest.
-          let same : history b ≡ history a = idles.step (before told) in
-          let there : IsAtRest kept (history b) = subst (λ (h : History). IsAtRest kept h) (sym same) rest in
-          subst (λ (h : History). HoldsThroughout (IsInStage stages) h (history c) × IsAtRest all (history c)) same ((given (before told) there.bytes_are).ok.step told there);
+          let same : b.history ≡ a.history = idles.step (before told) in
+          let there : IsAtRest kept b.history = subst (λ (h : History). IsAtRest kept h) (sym same) rest in
+          subst (λ (h : History). HoldsThroughout (IsInStage stages) h c.history × IsAtRest all c.history) same ((given (before told) there.bytes_are).ok.step told there);
     }
 
-    pub read_kept : (result : Result T E) → (IsTrue (tells b) → bytes_of (history b) ≡ kept → PerformsAll tells history kept all stages result b c) → OnOk result (IsTrue (tells c) → bytes_of (history a) ≡ kept → IsAtRest all (history c))
+    pub read_kept : (result : Result T E) → (IsTrue b.tells → bytes_of b.history ≡ kept → PerformsAll kept all stages result b c) → OnOk result (IsTrue c.tells → bytes_of a.history ≡ kept → IsAtRest all c.history)
     read_kept (Err e) given = tt
     read_kept (Ok x) given = λ told is.
-        let there : bytes_of (history b) ≡ kept = ap bytes_of (idles.step (before told)) ∙ is in
+        let there : bytes_of b.history ≡ kept = ap bytes_of (idles.step (before told)) ∙ is in
         (given (before told) there).kept_ok told there
 
-    pub then_stages : (result : Result T E) → (IsTrue (tells b) → bytes_of (history b) ≡ kept → PerformsAll tells history kept all stages result b c)
-        → (IsTrue (tells c) → others_of (history c).deeds ≡ others_of (history b).deeds) → PerformsAll tells history kept all stages result a c
+    pub then_stages : (result : Result T E) → (IsTrue b.tells → bytes_of b.history ≡ kept → PerformsAll kept all stages result b c)
+        → (IsTrue c.tells → others_of c.history.deeds ≡ others_of b.history.deeds) → PerformsAll kept all stages result a c
     then_stages result given others = record {
       reaches = read_reaches result given;
       ok = read_ok result given;
@@ -87,5 +88,5 @@ module _ {D : Type 0} (tells : D → Bool) (history : D → History) {T E : Type
     }
 
 -- one read after another
-pub idles_then : {D : Type 0} (tells : D → Bool) (history : D → History) (a b c : D) → Idles tells history a b → Idles tells history b c → Idles tells history a c
-idles_then tells history a b c first second = record { before = λ told. first.before (second.before told); step = λ told. second.step told ∙ first.step (second.before told) }
+pub idles_then : (a b c : Outside) → Idles a b → Idles b c → Idles a c
+idles_then a b c first second = record { before = λ told. first.before (second.before told); step = λ told. second.step told ∙ first.step (second.before told) }

@@ -1,5 +1,5 @@
 -- The stages of the maker: the old areas, the length, and the new volume.
-use Rattle.std.proofs.Common.{◌≡◌, ℕ, Bool, true, false, Result, Ok, IsErr, List, [], ◌∷◌, ◌++◌, inl, inr, refl, ap, sym, ◌∙◌, subst, arith, append_assoc}
+use Rattle.std.proofs.Common.{◌≡◌, ℕ, true, false, Result, Ok, IsErr, List, [], ◌∷◌, ◌++◌, inl, inr, refl, ap, sym, ◌∙◌, subst, arith, append_assoc}
 use Rattle.std.specs.Prelude.{Contains, IsTrue}
 use Rattle.std.proofs.lemmas.List.Elements.{Contains-append_left, Contains-append_right}
 use Rattle.qx_fields.specs.declared.order.Order.{Order}
@@ -7,6 +7,7 @@ use Rattle.qx_geom.specs.declared.geometry.Geometry.{Geometry}
 use Rattle.qx_outside.specs.Calls.{Did, MayDo}
 use Rattle.qx_outside.specs.Moments.{Moves}
 use Rattle.qx_outside.specs.Puts.{IsAtRest}
+use Rattle.qx_outside.specs.Outside.{Outside}
 use Rattle.qx_outside.specs.Trail.{Deed, History, after, bytes_of, others_of, resized, sized}
 use Rattle.qx_outside.proofs.Throughout.{moves_did, reaches_does, reaches_then, moves_then}
 use Rattle.qx_make.specs.Stages.{IsInStage, MakesAll, PerformsAll, Stage, clear_stage, made_bytes, make_stages, new_stages, old_places, old_stages, rest_stage, zero_stages, zeroed}
@@ -19,7 +20,7 @@ sized_rest bytes size h rest = record { bytes_are = ap (λ (l : List ℕ). resiz
 refused_rest : (bytes : List ℕ) (size : ℕ) (h : History) → IsAtRest bytes h → IsAtRest bytes (after (sized size false) h)
 refused_rest bytes size h rest = record { bytes_are = rest.bytes_are; settled = record { quiet = rest.settled.quiet } }
 
-module _ (g : Geometry) (order : Order) (moment size : ℕ) (old : List ℕ) {D : Type 0} (tells : D → Bool) (history : D → History) where
+module _ (g : Geometry) (order : Order) (moment size : ℕ) (old : List ℕ) where
   -- the bytes before the length is set and after it, and all stages
   abbrev cleared : List ℕ
   cleared = zeroed old (old_places old)
@@ -61,35 +62,35 @@ module _ (g : Geometry) (order : Order) (moment size : ℕ) (old : List ℕ) {D 
   rest_sized h rest = rest_in stages (clear_stage g whole) whole h (new_among (clear_stage g whole) (0, omega arith, refl)) refl rest
 
   -- the old areas are zeroed and the length is set
-  record IsSized (a c : D) : Type 0 where
-    moves : Moves tells history (IsAtRest old) (IsAtRest whole) (IsInStage stages) a c
-    bytes : IsTrue (tells c) → bytes_of (history a) ≡ old → bytes_of (history c) ≡ whole
-    others : IsTrue (tells c) → others_of (history c).deeds ≡ sized size true ∷ others_of (history a).deeds
+  record IsSized (a c : Outside) : Type 0 where
+    moves : Moves (IsAtRest old) (IsAtRest whole) (IsInStage stages) a c
+    bytes : IsTrue c.tells → bytes_of a.history ≡ old → bytes_of c.history ≡ whole
+    others : IsTrue c.tells → others_of c.history.deeds ≡ sized size true ∷ others_of a.history.deeds
 
-  is_sized : {T E : Type 0} (x : T) (a b c : D) → PerformsAll {E = E} tells history old cleared (old_stages old) (Ok x) a b → Did tells history (sized size true) b c → IsSized a c
+  is_sized : {T E : Type 0} (x : T) (a b c : Outside) → PerformsAll {E = E} old cleared (old_stages old) (Ok x) a b → Did (sized size true) b c → IsSized a c
   is_sized x a b c p did = record {
     moves =
-        moves_did tells history (IsAtRest old) (IsAtRest cleared) (IsAtRest whole) (IsInStage stages) (sized size true) (sized_rest cleared size) rest_sized a b c did
-        (moves_map tells history (IsAtRest old) (IsAtRest cleared) (IsInStage (old_stages old)) (IsInStage stages) in_old a b p.ok);
+        moves_did (IsAtRest old) (IsAtRest cleared) (IsAtRest whole) (IsInStage stages) (sized size true) (sized_rest cleared size) rest_sized a b c did
+        (moves_map (IsAtRest old) (IsAtRest cleared) (IsInStage (old_stages old)) (IsInStage stages) in_old a b p.ok);
     bytes = λ told is. ap bytes_of (did.step told) ∙ ap (λ (l : List ℕ). resized l size) (p.kept_ok (did.before told) is).bytes_are;
     others = λ told. ap (λ (h : History). others_of h.deeds) (did.step told) ∙ ap (λ (l : List Deed). sized size true ∷ l) (p.others (did.before told));
   }
 
   module _ {T E : Type 0} where
     -- the old areas fail
-    pub old_fails : (inner result : Result T E) (a b : D) → IsErr result → PerformsAll tells history old cleared (old_stages old) inner a b → MakesAll tells history size old all stages result a b
+    pub old_fails : (inner result : Result T E) (a b : Outside) → IsErr result → PerformsAll old cleared (old_stages old) inner a b → MakesAll size old all stages result a b
     old_fails inner result a b err p = record {
-      reaches = reaches_map tells history (IsAtRest old) (IsInStage (old_stages old)) (IsInStage stages) in_old a b p.reaches;
+      reaches = reaches_map (IsAtRest old) (IsInStage (old_stages old)) (IsInStage stages) in_old a b p.reaches;
       ok = on_err result _ err;
       kept_ok = on_err result _ err;
       others = λ told. inl (p.others told);
     }
 
     -- the length is refused
-    pub sizing_fails : (x : T) (result : Result T E) (a b c : D) → IsErr result → PerformsAll {E = E} tells history old cleared (old_stages old) (Ok x) a b → MayDo tells history (sized size false) b c → MakesAll tells history size old all stages result a c
+    pub sizing_fails : (x : T) (result : Result T E) (a b c : Outside) → IsErr result → PerformsAll {E = E} old cleared (old_stages old) (Ok x) a b → MayDo (sized size false) b c → MakesAll size old all stages result a c
     sizing_fails x result a b c err p may = record {
       reaches =
-          reaches_does tells history (IsAtRest old) (IsAtRest cleared) (IsAtRest cleared) (IsInStage stages) (λ deed. deed ≡ sized size false)
+          reaches_does (IsAtRest old) (IsAtRest cleared) (IsAtRest cleared) (IsInStage stages) (λ deed. deed ≡ sized size false)
           (λ h deed is rest. rest_before (after deed h) (subst (λ (d : Deed). IsAtRest cleared (after d h)) (sym is) (refused_rest cleared size h rest))) a b c
           (record {
             before = may.before;
@@ -98,7 +99,7 @@ module _ (g : Geometry) (order : Order) (moment size : ℕ) (old : List ℕ) {D 
               | inr did ↦ inr (sized size false, refl, did)
             ];
           })
-          (moves_map tells history (IsAtRest old) (IsAtRest cleared) (IsInStage (old_stages old)) (IsInStage stages) in_old a b p.ok);
+          (moves_map (IsAtRest old) (IsAtRest cleared) (IsInStage (old_stages old)) (IsInStage stages) in_old a b p.ok);
       ok = on_err result _ err;
       kept_ok = on_err result _ err;
       others = λ told. elim (may.step told) [
@@ -108,15 +109,15 @@ module _ (g : Geometry) (order : Order) (moment size : ℕ) (old : List ℕ) {D 
     }
 
     -- the new volume ends it
-    pub volume_ends : (x y : T) (result : Result T E) (a b c d : D) → PerformsAll {E = E} tells history old cleared (old_stages old) (Ok x) a b → Did tells history (sized size true) b c
-        → PerformsAll tells history whole all (new_stages g order moment whole) result c d → MakesAll tells history size old all stages result a d
+    pub volume_ends : (x y : T) (result : Result T E) (a b c d : Outside) → PerformsAll {E = E} old cleared (old_stages old) (Ok x) a b → Did (sized size true) b c
+        → PerformsAll whole all (new_stages g order moment whole) result c d → MakesAll size old all stages result a d
     volume_ends x y result a b c d p did q =
         let s = is_sized x a b c p did in
         record {
-          reaches = reaches_then tells history (IsAtRest old) (IsAtRest whole) (IsAtRest whole) (IsInStage stages) a c d (reaches_map tells history (IsAtRest whole) (IsInStage (new_stages g order moment whole)) (IsInStage stages) in_new c d q.reaches) s.moves;
+          reaches = reaches_then (IsAtRest old) (IsAtRest whole) (IsAtRest whole) (IsInStage stages) a c d (reaches_map (IsAtRest whole) (IsInStage (new_stages g order moment whole)) (IsInStage stages) in_new c d q.reaches) s.moves;
           ok =
               on_ok result _ _
-              (λ m. moves_then tells history (IsAtRest old) (IsAtRest whole) (IsAtRest all) (IsInStage stages) a c d (moves_map tells history (IsAtRest whole) (IsAtRest all) (IsInStage (new_stages g order moment whole)) (IsInStage stages) in_new c d m) s.moves) q.ok;
+              (λ m. moves_then (IsAtRest old) (IsAtRest whole) (IsAtRest all) (IsInStage stages) a c d (moves_map (IsAtRest whole) (IsAtRest all) (IsInStage (new_stages g order moment whole)) (IsInStage stages) in_new c d m) s.moves) q.ok;
           kept_ok = on_ok result _ _ (λ f told is. f told (s.bytes (q.reaches.before told) is)) q.kept_ok;
           others = λ told. inr (true, q.others told ∙ s.others (q.reaches.before told));
         }

@@ -1,5 +1,5 @@
 -- What the maker promises for its options.
-use Rattle.std.specs.Prelude.{ℕ, ◌≡◌, ◌-◌, Bool, IsTrue, List, [], ◌∷◌, Result, Some}
+use Rattle.std.specs.Prelude.{ℕ, ◌≡◌, ◌-◌, IsTrue, List, [], ◌∷◌, Result, Some}
 use Rattle.qx_geom.specs.declared.area.Which.TheVariants.{Second}
 use Rattle.qx_geom.specs.declared.geometry.GeomFault.{GeomFault}
 use Rattle.qx_geom.specs.declared.geometry.Geometry.{Geometry}
@@ -8,6 +8,7 @@ use Rattle.qx_model.specs.EmptyTree.{empty_tree}
 use Rattle.qx_model.specs.Tree.{Tree}
 use Rattle.qx_outside.specs.Images.{IsSettled}
 use Rattle.qx_outside.specs.Moments.{HoldsThroughout}
+use Rattle.qx_outside.specs.Outside.{Outside}
 use Rattle.qx_outside.specs.Trail.{History, Deed, took, gave, wrote, synced, sized, told_moment, bytes_of, input, output}
 use Rattle.qx_super.specs.declared.choice.Pick.TheVariants as picks
 use Rattle.qx_super.specs.Active.{active_area, active_super}
@@ -39,9 +40,9 @@ pub record HasMade (o : MakeOptions) (g : Geometry) (old : List ℕ) (h : Histor
   pub sound : IsSound (bytes_of h) (tree_for o)
 
 -- on a device that is ready for it an image gives at each moment no volume, or the old active area with its trees, or a sound volume with the new tree, unless a torn superblock matches its checksum by chance
-pub record MakesAtEachMoment {D : Type 0} (tells : D → Bool) (history : D → History) (o : MakeOptions) (old new : D) : Type 0 where
-  pub before : IsTrue (tells new) → IsTrue (tells old)
-  pub step : IsTrue (tells new) → IsReadyToMake (history old) → HoldsThroughout (LeavesByMaker (bytes_of (history old)) o.size (tree_for o)) (history old) (history new)
+pub record MakesAtEachMoment (o : MakeOptions) (old new : Outside) : Type 0 where
+  pub before : IsTrue new.tells → IsTrue old.tells
+  pub step : IsTrue new.tells → IsReadyToMake old.history → HoldsThroughout (LeavesByMaker (bytes_of old.history) o.size (tree_for o)) old.history new.history
 
 -- the moments that the clock told, the newest first
 abbrev pub moments_told : List Deed → List ℕ

@@ -3,6 +3,7 @@ use Rattle.std.specs.Prelude.{ℕ, ◌≡◌, IsTrue, Bool, Result, OnOk, ◌+�
 use Rattle.std.specs.List.{range_with_len}
 use Rattle.qx_outside.specs.Moments.{Moves, Reaches}
 use Rattle.qx_outside.specs.Puts.{HasPut, IsAtRest, IsPutting, Put, PutsOrRests, with_puts}
+use Rattle.qx_outside.specs.Outside.{Outside}
 use Rattle.qx_outside.specs.Trail.{History, bytes_of, lengths_asked, others_of, resized, sized}
 use Rattle.qx_fields.specs.declared.order.Order.{Order}
 use Rattle.qx_geom.specs.declared.area.Which.TheVariants.{First, Second}
@@ -29,18 +30,18 @@ abbrev pub Passes : Stage → History → Type 0
 Passes s h = PutsOrRests s.kept s.puts (after_stage s) h
 
 -- over a device with the stage's bytes a call that is Ok leaves all put and kept; if it began at rest it passes the stage, whatever it answers; it asks for no length
-pub record Performs {D T E : Type 0} (tells : D → Bool) (history : D → History) (stage : Stage) (result : Result T E) (old new : D) : Type 0 where
-  pub reaches : Reaches tells history (IsAtRest stage.kept) (Passes stage) old new
-  pub ok : OnOk result (Moves tells history (IsAtRest stage.kept) (IsAtRest (after_stage stage)) (Passes stage) old new)
-  pub kept : OnOk result (IsTrue (tells new) → bytes_of (history old) ≡ stage.kept → IsAtRest (after_stage stage) (history new))
-  pub others : IsTrue (tells new) → others_of (history new).deeds ≡ others_of (history old).deeds
+pub record Performs {T E : Type 0} (stage : Stage) (result : Result T E) (old new : Outside) : Type 0 where
+  pub reaches : Reaches (IsAtRest stage.kept) (Passes stage) old new
+  pub ok : OnOk result (Moves (IsAtRest stage.kept) (IsAtRest (after_stage stage)) (Passes stage) old new)
+  pub kept : OnOk result (IsTrue new.tells → bytes_of old.history ≡ stage.kept → IsAtRest (after_stage stage) new.history)
+  pub others : IsTrue new.tells → others_of new.history.deeds ≡ others_of old.history.deeds
 
 -- the same, but where it is Ok all is put and not yet kept
-pub record PutsAll {D T E : Type 0} (tells : D → Bool) (history : D → History) (stage : Stage) (result : Result T E) (old new : D) : Type 0 where
-  pub reaches : Reaches tells history (IsAtRest stage.kept) (Passes stage) old new
-  pub ok : OnOk result (Moves tells history (IsAtRest stage.kept) (HasPut stage.kept stage.puts (after_stage stage)) (Passes stage) old new)
-  pub now : OnOk result (IsTrue (tells new) → bytes_of (history old) ≡ stage.kept → bytes_of (history new) ≡ after_stage stage)
-  pub others : IsTrue (tells new) → others_of (history new).deeds ≡ others_of (history old).deeds
+pub record PutsAll {T E : Type 0} (stage : Stage) (result : Result T E) (old new : Outside) : Type 0 where
+  pub reaches : Reaches (IsAtRest stage.kept) (Passes stage) old new
+  pub ok : OnOk result (Moves (IsAtRest stage.kept) (HasPut stage.kept stage.puts (after_stage stage)) (Passes stage) old new)
+  pub now : OnOk result (IsTrue new.tells → bytes_of old.history ≡ stage.kept → bytes_of new.history ≡ after_stage stage)
+  pub others : IsTrue new.tells → others_of new.history.deeds ≡ others_of old.history.deeds
 
 -- the device is in one of these stages
 pub record IsInStage (stages : List Stage) (h : History) : Type 0 where
@@ -49,11 +50,11 @@ pub record IsInStage (stages : List Stage) (h : History) : Type 0 where
   pub putting : IsPutting stage.kept stage.puts h
 
 -- several stages one after another, from these bytes to those
-pub record PerformsAll {D T E : Type 0} (tells : D → Bool) (history : D → History) (kept all : List ℕ) (stages : List Stage) (result : Result T E) (old new : D) : Type 0 where
-  pub reaches : Reaches tells history (IsAtRest kept) (IsInStage stages) old new
-  pub ok : OnOk result (Moves tells history (IsAtRest kept) (IsAtRest all) (IsInStage stages) old new)
-  pub kept_ok : OnOk result (IsTrue (tells new) → bytes_of (history old) ≡ kept → IsAtRest all (history new))
-  pub others : IsTrue (tells new) → others_of (history new).deeds ≡ others_of (history old).deeds
+pub record PerformsAll {T E : Type 0} (kept all : List ℕ) (stages : List Stage) (result : Result T E) (old new : Outside) : Type 0 where
+  pub reaches : Reaches (IsAtRest kept) (IsInStage stages) old new
+  pub ok : OnOk result (Moves (IsAtRest kept) (IsAtRest all) (IsInStage stages) old new)
+  pub kept_ok : OnOk result (IsTrue new.tells → bytes_of old.history ≡ kept → IsAtRest all new.history)
+  pub others : IsTrue new.tells → others_of new.history.deeds ≡ others_of old.history.deeds
 
 -- at most one length was asked for, this one
 abbrev pub AsksOneLength : ℕ → History → History → Type 0
@@ -64,11 +65,11 @@ abbrev pub MayAskOneLength : ℕ → History → History → Type 0
 MayAskOneLength size old new = (others_of new.deeds ≡ others_of old.deeds) ⊎ ((ok : Bool) × (others_of new.deeds ≡ sized size ok ∷ others_of old.deeds))
 
 -- the stages of a new volume, which gets this length on the way
-pub record MakesAll {D T E : Type 0} (tells : D → Bool) (history : D → History) (size : ℕ) (kept all : List ℕ) (stages : List Stage) (result : Result T E) (old new : D) : Type 0 where
-  pub reaches : Reaches tells history (IsAtRest kept) (IsInStage stages) old new
-  pub ok : OnOk result (Moves tells history (IsAtRest kept) (IsAtRest all) (IsInStage stages) old new)
-  pub kept_ok : OnOk result (IsTrue (tells new) → bytes_of (history old) ≡ kept → IsAtRest all (history new))
-  pub others : IsTrue (tells new) → MayAskOneLength size (history old) (history new)
+pub record MakesAll {T E : Type 0} (size : ℕ) (kept all : List ℕ) (stages : List Stage) (result : Result T E) (old new : Outside) : Type 0 where
+  pub reaches : Reaches (IsAtRest kept) (IsInStage stages) old new
+  pub ok : OnOk result (Moves (IsAtRest kept) (IsAtRest all) (IsInStage stages) old new)
+  pub kept_ok : OnOk result (IsTrue new.tells → bytes_of old.history ≡ kept → IsAtRest all new.history)
+  pub others : IsTrue new.tells → MayAskOneLength size old.history new.history
 
 -- ---- the old areas
 

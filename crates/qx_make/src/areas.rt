@@ -21,10 +21,10 @@ fn zeros_within(len: u64, place: u64) -> &'static [u8]
 
 /// Zeroes the area at a place, as far as the device of `len` bytes has it, and has that kept.
 pub fn zero_area<D: Dev>(host: &mut D, len: u64, place: u64) -> Result<(), Failed>
-    requires len { IfSome (D.extent host.old) (λ n. n ≡ len) }
-    ensures stage { (bytes : List ℕ) → length bytes ≡ len → Performs D.tells D.history (zero_stage bytes place) result host.old host.new }
-    ensures others { LeavesRest D.extent D.attached D.dev_reads D.con_faults host.old host.new }
-    ensures cause { HasCause (D.dev_faults host.old) (D.dev_faults host.new) result }
+    requires len { IfSome (D.outside host.old).extent (λ n. n ≡ len) }
+    ensures stage { (bytes : List ℕ) → length bytes ≡ len → Performs (zero_stage bytes place) result (D.outside host.old) (D.outside host.new) }
+    ensures others { LeavesRest (D.outside host.old) (D.outside host.new) }
+    ensures cause { HasCause (D.outside host.old).dev_faults (D.outside host.new).dev_faults result }
 {
     let zeros = zeros_within(len, place);
     if zeros.is_empty() {
@@ -44,12 +44,12 @@ pub fn put_into_areas<D: Dev>(
     second: &[u8],
 ) -> Result<(), Failed>
     requires geometry { IsGeometry geometry.now }
-    requires len { IfSome (D.extent host.old) (λ n. geometry.now.len4 ≤ n) }
+    requires len { IfSome (D.outside host.old).extent (λ n. geometry.now.len4 ≤ n) }
     requires first { length first.now ≤ 4096 }
     requires second { length second.now ≤ 4096 }
-    ensures stage { (bytes : List ℕ) → geometry.now.len4 ≤ length bytes → Performs D.tells D.history (areas_stage geometry.now first.now second.now bytes) result host.old host.new }
-    ensures others { LeavesRest D.extent D.attached D.dev_reads D.con_faults host.old host.new }
-    ensures cause { HasCause (D.dev_faults host.old) (D.dev_faults host.new) result }
+    ensures stage { (bytes : List ℕ) → geometry.now.len4 ≤ length bytes → Performs (areas_stage geometry.now first.now second.now bytes) result (D.outside host.old) (D.outside host.new) }
+    ensures others { LeavesRest (D.outside host.old) (D.outside host.new) }
+    ensures cause { HasCause (D.outside host.old).dev_faults (D.outside host.new).dev_faults result }
 {
     host.write_at(geometry.area(Which::First), first)?;
     host.write_at(geometry.area(Which::Second), second)?;

@@ -14,10 +14,10 @@ const PIECE: usize = 65536;
 /// Writes all blocks of both halves and the root directory's block.
 fn write_pieces<D: Dev>(host: &mut D, volume: &NewVolume) -> Result<(), Failed>
     requires geometry { IsGeometry volume.now.geometry }
-    requires len { IfSome (D.extent host.old) (λ n. volume.now.geometry.len4 ≤ n) }
-    ensures stage { (bytes : List ℕ) → volume.now.geometry.len4 ≤ length bytes → PutsAll D.tells D.history (blocks_stage volume.now.geometry volume.now.order volume.now.moment bytes) result host.old host.new }
-    ensures others { LeavesRest D.extent D.attached D.dev_reads D.con_faults host.old host.new }
-    ensures cause { HasCause (D.dev_faults host.old) (D.dev_faults host.new) result }
+    requires len { IfSome (D.outside host.old).extent (λ n. volume.now.geometry.len4 ≤ n) }
+    ensures stage { (bytes : List ℕ) → volume.now.geometry.len4 ≤ length bytes → PutsAll (blocks_stage volume.now.geometry volume.now.order volume.now.moment bytes) result (D.outside host.old) (D.outside host.new) }
+    ensures others { LeavesRest (D.outside host.old) (D.outside host.new) }
+    ensures cause { HasCause (D.outside host.old).dev_faults (D.outside host.new).dev_faults result }
 {
     let blocks = 2 * volume.geometry.half + 1;
     let size = volume.geometry.blocksize as usize;
@@ -36,10 +36,10 @@ fn write_pieces<D: Dev>(host: &mut D, volume: &NewVolume) -> Result<(), Failed>
 /// Writes all blocks of both halves and the root directory's block, and has them kept.
 pub fn write_blocks<D: Dev>(host: &mut D, volume: &NewVolume) -> Result<(), Failed>
     requires geometry { IsGeometry volume.now.geometry }
-    requires len { IfSome (D.extent host.old) (λ n. volume.now.geometry.len4 ≤ n) }
-    ensures stage { (bytes : List ℕ) → volume.now.geometry.len4 ≤ length bytes → Performs D.tells D.history (blocks_stage volume.now.geometry volume.now.order volume.now.moment bytes) result host.old host.new }
-    ensures others { LeavesRest D.extent D.attached D.dev_reads D.con_faults host.old host.new }
-    ensures cause { HasCause (D.dev_faults host.old) (D.dev_faults host.new) result }
+    requires len { IfSome (D.outside host.old).extent (λ n. volume.now.geometry.len4 ≤ n) }
+    ensures stage { (bytes : List ℕ) → volume.now.geometry.len4 ≤ length bytes → Performs (blocks_stage volume.now.geometry volume.now.order volume.now.moment bytes) result (D.outside host.old) (D.outside host.new) }
+    ensures others { LeavesRest (D.outside host.old) (D.outside host.new) }
+    ensures cause { HasCause (D.outside host.old).dev_faults (D.outside host.new).dev_faults result }
 {
     write_pieces(host, volume)?;
     host.sync()?;

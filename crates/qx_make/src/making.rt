@@ -73,11 +73,11 @@ fn places_to_zero(pick: Pick, active: Option<SuperView<'_>>) -> (u64, Option<u64
 
 /// Zeroes two areas of a device of `len` bytes, one after the other.
 fn zero_both<D: Dev>(host: &mut D, len: u64, one: u64, last: u64) -> Result<(), Failed>
-    requires len { IfSome (D.extent host.old) (λ n. n ≡ len) }
+    requires len { IfSome (D.outside host.old).extent (λ n. n ≡ len) }
     ensures stages { (bytes : List ℕ) → length bytes ≡ len
-        → PerformsAll D.tells D.history bytes (zeroed bytes (one ∷ last ∷ [])) (zero_stages bytes (one ∷ last ∷ []) ++ rest_stage (zeroed bytes (one ∷ last ∷ [])) ∷ []) result host.old host.new }
-    ensures others { LeavesRest D.extent D.attached D.dev_reads D.con_faults host.old host.new }
-    ensures cause { HasCause (D.dev_faults host.old) (D.dev_faults host.new) result }
+        → PerformsAll bytes (zeroed bytes (one ∷ last ∷ [])) (zero_stages bytes (one ∷ last ∷ []) ++ rest_stage (zeroed bytes (one ∷ last ∷ [])) ∷ []) result (D.outside host.old) (D.outside host.new) }
+    ensures others { LeavesRest (D.outside host.old) (D.outside host.new) }
+    ensures cause { HasCause (D.outside host.old).dev_faults (D.outside host.new).dev_faults result }
 {
     zero_area(host, len, one)?;
     zero_area(host, len, last)
@@ -85,11 +85,11 @@ fn zero_both<D: Dev>(host: &mut D, len: u64, one: u64, last: u64) -> Result<(), 
 
 /// Zeroes one or two areas of a device of `len` bytes.
 fn zero_places<D: Dev>(host: &mut D, len: u64, one: u64, last: Option<u64>) -> Result<(), Failed>
-    requires len { IfSome (D.extent host.old) (λ n. n ≡ len) }
+    requires len { IfSome (D.outside host.old).extent (λ n. n ≡ len) }
     ensures stages { (bytes : List ℕ) → length bytes ≡ len
-        → PerformsAll D.tells D.history bytes (zeroed bytes (places_of_two one last)) (zero_stages bytes (places_of_two one last) ++ rest_stage (zeroed bytes (places_of_two one last)) ∷ []) result host.old host.new }
-    ensures others { LeavesRest D.extent D.attached D.dev_reads D.con_faults host.old host.new }
-    ensures cause { HasCause (D.dev_faults host.old) (D.dev_faults host.new) result }
+        → PerformsAll bytes (zeroed bytes (places_of_two one last)) (zero_stages bytes (places_of_two one last) ++ rest_stage (zeroed bytes (places_of_two one last)) ∷ []) result (D.outside host.old) (D.outside host.new) }
+    ensures others { LeavesRest (D.outside host.old) (D.outside host.new) }
+    ensures cause { HasCause (D.outside host.old).dev_faults (D.outside host.new).dev_faults result }
 {
     match last {
         None => zero_area(host, len, one),
@@ -99,9 +99,9 @@ fn zero_places<D: Dev>(host: &mut D, len: u64, one: u64, last: Option<u64>) -> R
 
 /// Zeroes the areas of the volume that the device has, whichever it is; where none is active, the first area's place.
 fn clear_old<D: Dev>(host: &mut D) -> Result<(), Failed>
-    ensures stages { (old : List ℕ) → PerformsAll D.tells D.history old (zeroed old (old_places old)) (old_stages old) result host.old host.new }
-    ensures others { LeavesConsole D.attached D.con_faults host.old host.new }
-    ensures cause { HasCause (D.dev_faults host.old) (D.dev_faults host.new) result }
+    ensures stages { (old : List ℕ) → PerformsAll old (zeroed old (old_places old)) (old_stages old) result (D.outside host.old) (D.outside host.new) }
+    ensures others { LeavesConsole (D.outside host.old) (D.outside host.new) }
+    ensures cause { HasCause (D.outside host.old).dev_faults (D.outside host.new).dev_faults result }
 {
     let len = host.len()?;
     let mut first = [0; 512];
@@ -115,10 +115,10 @@ fn clear_old<D: Dev>(host: &mut D) -> Result<(), Failed>
 /// Puts both superblocks of the new volume, and has them kept.
 fn write_supers<D: Dev>(host: &mut D, volume: &NewVolume) -> Result<(), Failed>
     requires geometry { IsGeometry volume.now.geometry }
-    requires len { IfSome (D.extent host.old) (λ n. volume.now.geometry.len4 ≤ n) }
-    ensures stage { (bytes : List ℕ) → volume.now.geometry.len4 ≤ length bytes → Performs D.tells D.history (supers_stage volume.now.geometry volume.now.order volume.now.moment bytes) result host.old host.new }
-    ensures others { LeavesRest D.extent D.attached D.dev_reads D.con_faults host.old host.new }
-    ensures cause { HasCause (D.dev_faults host.old) (D.dev_faults host.new) result }
+    requires len { IfSome (D.outside host.old).extent (λ n. volume.now.geometry.len4 ≤ n) }
+    ensures stage { (bytes : List ℕ) → volume.now.geometry.len4 ≤ length bytes → Performs (supers_stage volume.now.geometry volume.now.order volume.now.moment bytes) result (D.outside host.old) (D.outside host.new) }
+    ensures others { LeavesRest (D.outside host.old) (D.outside host.new) }
+    ensures cause { HasCause (D.outside host.old).dev_faults (D.outside host.new).dev_faults result }
 {
     let mut first = [0; 512];
     let mut second = [0; 512];
@@ -130,11 +130,11 @@ fn write_supers<D: Dev>(host: &mut D, volume: &NewVolume) -> Result<(), Failed>
 /// Writes a new volume over a device of its length: its areas are zeroed, and its superblocks come last.
 fn write_volume<D: Dev>(host: &mut D, volume: &NewVolume) -> Result<(), Failed>
     requires geometry { IsGeometry volume.now.geometry }
-    requires len { IfSome (D.extent host.old) (λ n. volume.now.geometry.len4 ≤ n) }
+    requires len { IfSome (D.outside host.old).extent (λ n. volume.now.geometry.len4 ≤ n) }
     ensures stages { (bytes : List ℕ) → volume.now.geometry.len4 ≤ length bytes
-        → PerformsAll D.tells D.history bytes (with_volume volume.now.geometry volume.now.order volume.now.moment bytes) (new_stages volume.now.geometry volume.now.order volume.now.moment bytes) result host.old host.new }
-    ensures others { LeavesRest D.extent D.attached D.dev_reads D.con_faults host.old host.new }
-    ensures cause { HasCause (D.dev_faults host.old) (D.dev_faults host.new) result }
+        → PerformsAll bytes (with_volume volume.now.geometry volume.now.order volume.now.moment bytes) (new_stages volume.now.geometry volume.now.order volume.now.moment bytes) result (D.outside host.old) (D.outside host.new) }
+    ensures others { LeavesRest (D.outside host.old) (D.outside host.new) }
+    ensures cause { HasCause (D.outside host.old).dev_faults (D.outside host.new).dev_faults result }
 {
     put_into_areas(host, &volume.geometry, &ZEROS, &ZEROS)?;
     write_blocks(host, volume)?;
@@ -152,9 +152,9 @@ fn replace<D: Dev>(
     requires geometry { IsGeometry geometry.now }
     requires size { geometry.now.len4 ≤ size }
     ensures now { moment < 2 ^ 32 }
-    ensures stages { (old : List ℕ) → MakesAll D.tells D.history size old (made_bytes geometry.now order moment size old) (make_stages geometry.now order moment size old) result host.old host.new }
-    ensures others { LeavesConsole D.attached D.con_faults host.old host.new }
-    ensures cause { HasCause (D.dev_faults host.old) (D.dev_faults host.new) result }
+    ensures stages { (old : List ℕ) → MakesAll size old (made_bytes geometry.now order moment size old) (make_stages geometry.now order moment size old) result (D.outside host.old) (D.outside host.new) }
+    ensures others { LeavesConsole (D.outside host.old) (D.outside host.new) }
+    ensures cause { HasCause (D.outside host.old).dev_faults (D.outside host.new).dev_faults result }
 {
     let volume = NewVolume {
         geometry: *geometry,
@@ -178,17 +178,17 @@ pub fn make<D: Dev>(host: &mut D, options: &MakeOptions) -> Result<Made, MakeFau
 
     // What was made is what was asked for, byte for byte.
     ensures made { (g : Geometry) → geometry_for options.now ≡ Ok g → IfOk result (λ made. made ≡ made_of g) }
-    ensures volume { (g : Geometry) → geometry_for options.now ≡ Ok g → OnOk result (IsTrue (D.tells host.new) → HasMade options.now g (bytes_of (D.history host.old)) (D.history host.new)) }
+    ensures volume { (g : Geometry) → geometry_for options.now ≡ Ok g → OnOk result (IsTrue (D.outside host.new).tells → HasMade options.now g (bytes_of (D.outside host.old).history) (D.outside host.new).history) }
 
     // Wherever the power is cut.
-    ensures any_moment { MakesAtEachMoment D.tells D.history options.now host.old host.new }
+    ensures any_moment { MakesAtEachMoment options.now (D.outside host.old) (D.outside host.new) }
 
-    ensures lengths { IsTrue (D.tells host.new) → AsksOneLength options.now.size (D.history host.old) (D.history host.new) }
-    ensures console { IsTrue (D.tells host.new) → KeepsQuiet (D.history host.old) (D.history host.new) }
-    ensures others { LeavesConsole D.attached D.con_faults host.old host.new }
-    ensures later { D.dev_faults host.old ≤ D.dev_faults host.new }
-    ensures device { result ≡ Err faults.Device → Rose (D.dev_faults host.old) (D.dev_faults host.new) }
-    ensures kept { (result ≡ Err faults.Device → ⊥) → D.dev_faults host.new ≡ D.dev_faults host.old }
+    ensures lengths { IsTrue (D.outside host.new).tells → AsksOneLength options.now.size (D.outside host.old).history (D.outside host.new).history }
+    ensures console { IsTrue (D.outside host.new).tells → KeepsQuiet (D.outside host.old).history (D.outside host.new).history }
+    ensures others { LeavesConsole (D.outside host.old) (D.outside host.new) }
+    ensures later { (D.outside host.old).dev_faults ≤ (D.outside host.new).dev_faults }
+    ensures device { result ≡ Err faults.Device → Rose (D.outside host.old).dev_faults (D.outside host.new).dev_faults }
+    ensures kept { (result ≡ Err faults.Device → ⊥) → (D.outside host.new).dev_faults ≡ (D.outside host.old).dev_faults }
 {
     let geometry = match Geometry::new(options.size, options.blocksize, options.inodes) {
         Err(fault) => return Err(MakeFault::Geom(fault)),

@@ -7,6 +7,7 @@ use Rattle.std.proofs.lemmas.Bool.{cases_lt}
 use Rattle.std.proofs.lemmas.List.{take-append-drop}
 use Rattle.qx_bytes.specs.Ranges.{put_at}
 use Rattle.qx_bytes.proofs.Puts.{byte_put_apart, length_put, range_range}
+use Rattle.qx_outside.specs.Outside.{Outside}
 use Rattle.qx_outside.specs.Trail.{History, Deed, took, gave, wrote, synced, sized, told_moment, after, resized, device_bytes, bytes_of}
 use Rattle.qx_outside.specs.Images.{IsPending, IsImage, IsAsked, kept_after}
 use Rattle.qx_outside.specs.Calls.{Did, Writes, Syncs}
@@ -173,40 +174,40 @@ module _ (X : List ℕ) (puts : List Put) where
 
 -- ---- calls
 
-module _ {D : Type 0} (tells : D → Bool) (history : D → History) (X : List ℕ) (puts : List Put) (all : List ℕ) where
+module _ (X : List ℕ) (puts : List Put) (all : List ℕ) where
   -- before the first
-  pub moves_rest : (a : D) → Moves tells history (IsAtRest X) (HasPut X puts X) (PutsOrRests X puts all) a a
-  moves_rest a = record { before = λ t. t; step = λ t rest. let p = IsPutting-rest X puts (history a) rest in (record { since = []; grew = refl; along = inl p }, record { putting = p; now_is = rest.bytes_are }) }
+  pub moves_rest : (a : Outside) → Moves (IsAtRest X) (HasPut X puts X) (PutsOrRests X puts all) a a
+  moves_rest a = record { before = λ t. t; step = λ t rest. let p = IsPutting-rest X puts a.history rest in (record { since = []; grew = refl; along = inl p }, record { putting = p; now_is = rest.bytes_are }) }
 
   -- a part of them was put
-  pub moves_put : (at : ℕ) (asked Y : List ℕ) (a b c : D) → IsPartOf puts at asked → at + length asked ≤ length X → Did tells history (wrote at asked asked true) b c
-      → Moves tells history (IsAtRest X) (HasPut X puts Y) (PutsOrRests X puts all) a b → Moves tells history (IsAtRest X) (HasPut X puts (put_at Y at asked)) (PutsOrRests X puts all) a c
+  pub moves_put : (at : ℕ) (asked Y : List ℕ) (a b c : Outside) → IsPartOf puts at asked → at + length asked ≤ length X → Did (wrote at asked asked true) b c
+      → Moves (IsAtRest X) (HasPut X puts Y) (PutsOrRests X puts all) a b → Moves (IsAtRest X) (HasPut X puts (put_at Y at asked)) (PutsOrRests X puts all) a c
   moves_put at asked Y a b c part room did m =
-      moves_did tells history (IsAtRest X) (HasPut X puts Y) (HasPut X puts (put_at Y at asked)) (PutsOrRests X puts all) (wrote at asked asked true)
+      moves_did (IsAtRest X) (HasPut X puts Y) (HasPut X puts (put_at Y at asked)) (PutsOrRests X puts all) (wrote at asked asked true)
       (λ h p. record { putting = IsPutting-write X puts h at asked asked true part room refl p.putting; now_is = ap (λ (bytes : List ℕ). put_at bytes at asked) p.now_is })
       (λ h p. inl p.putting) a b c did m
 
   -- a part of them may have been put
-  pub reaches_put : (at : ℕ) (asked Y : List ℕ) (a b c : D) → IsPartOf puts at asked → at + length asked ≤ length X → Writes tells history at asked b c
-      → Moves tells history (IsAtRest X) (HasPut X puts Y) (PutsOrRests X puts all) a b → Reaches tells history (IsAtRest X) (PutsOrRests X puts all) a c
+  pub reaches_put : (at : ℕ) (asked Y : List ℕ) (a b c : Outside) → IsPartOf puts at asked → at + length asked ≤ length X → Writes at asked b c
+      → Moves (IsAtRest X) (HasPut X puts Y) (PutsOrRests X puts all) a b → Reaches (IsAtRest X) (PutsOrRests X puts all) a c
   reaches_put at asked Y a b c part room writes m =
-      reaches_does tells history (IsAtRest X) (HasPut X puts Y) (HasPut X puts Y) (PutsOrRests X puts all) (IsWrite tells history at asked)
+      reaches_does (IsAtRest X) (HasPut X puts Y) (HasPut X puts Y) (PutsOrRests X puts all) (IsWrite at asked)
       (λ h deed is p. inl (subst (λ (d : Deed). IsPutting X puts (after d h)) (sym is.1.2) (IsPutting-write X puts h at asked is.0 is.1.0 part room is.1.1 p.putting)))
-      a b c (does_writes tells history at asked b c writes) m
+      a b c (does_writes at asked b c writes) m
 
   -- all of them were put and are kept
-  pub moves_sync : (a b c : D) → Did tells history (synced true) b c
-      → Moves tells history (IsAtRest X) (HasPut X puts all) (PutsOrRests X puts all) a b → Moves tells history (IsAtRest X) (IsAtRest all) (PutsOrRests X puts all) a c
+  pub moves_sync : (a b c : Outside) → Did (synced true) b c
+      → Moves (IsAtRest X) (HasPut X puts all) (PutsOrRests X puts all) a b → Moves (IsAtRest X) (IsAtRest all) (PutsOrRests X puts all) a c
   moves_sync a b c did m =
-      moves_did tells history (IsAtRest X) (HasPut X puts all) (IsAtRest all) (PutsOrRests X puts all) (synced true)
+      moves_did (IsAtRest X) (HasPut X puts all) (IsAtRest all) (PutsOrRests X puts all) (synced true)
       (λ h p. IsAtRest-synced X puts h all p.now_is) (λ h p. inr p) a b c did m
 
   -- they may be kept
-  pub reaches_sync : (a b c : D) → Syncs tells history b c
-      → Moves tells history (IsAtRest X) (HasPut X puts all) (PutsOrRests X puts all) a b → Reaches tells history (IsAtRest X) (PutsOrRests X puts all) a c
+  pub reaches_sync : (a b c : Outside) → Syncs b c
+      → Moves (IsAtRest X) (HasPut X puts all) (PutsOrRests X puts all) a b → Reaches (IsAtRest X) (PutsOrRests X puts all) a c
   reaches_sync a b c syncs m =
-      reaches_does tells history (IsAtRest X) (HasPut X puts all) (HasPut X puts all) (PutsOrRests X puts all) (IsSync tells history)
-      (λ h deed is p. subst (λ (d : Deed). PutsOrRests X puts all (after d h)) (sym is.1) (by_answer h is.0 p)) a b c (does_syncs tells history b c syncs) m
+      reaches_does (IsAtRest X) (HasPut X puts all) (HasPut X puts all) (PutsOrRests X puts all) (IsSync)
+      (λ h deed is p. subst (λ (d : Deed). PutsOrRests X puts all (after d h)) (sym is.1) (by_answer h is.0 p)) a b c (does_syncs b c syncs) m
     where
       by_answer : (h : History) (ok : Bool) → HasPut X puts all h → PutsOrRests X puts all (after (synced ok) h)
       by_answer h true p = inr (IsAtRest-synced X puts h all p.now_is)
@@ -214,15 +215,15 @@ module _ {D : Type 0} (tells : D → Bool) (history : D → History) (X : List �
 
 -- ---- the other deeds
 
-module _ {D : Type 0} (tells : D → Bool) (history : D → History) (others : List Deed) where
+module _ (others : List Deed) where
   -- a write adds none
-  pub others_write : (at : ℕ) (asked : List ℕ) (a b : D) → Writes tells history at asked a b → Keeps tells history (HasOthers others) a b
+  pub others_write : (at : ℕ) (asked : List ℕ) (a b : Outside) → Writes at asked a b → Keeps (HasOthers others) a b
   others_write at asked a b writes =
-      keeps_does tells history (HasOthers others) (IsWrite tells history at asked)
-      (λ h deed is has. subst (λ (d : Deed). HasOthers others (after d h)) (sym is.1.2) has) a b (does_writes tells history at asked a b writes)
+      keeps_does (HasOthers others) (IsWrite at asked)
+      (λ h deed is has. subst (λ (d : Deed). HasOthers others (after d h)) (sym is.1.2) has) a b (does_writes at asked a b writes)
 
   -- nor does a sync
-  pub others_sync : (a b : D) → Syncs tells history a b → Keeps tells history (HasOthers others) a b
+  pub others_sync : (a b : Outside) → Syncs a b → Keeps (HasOthers others) a b
   others_sync a b syncs =
-      keeps_does tells history (HasOthers others) (IsSync tells history)
-      (λ h deed is has. subst (λ (d : Deed). HasOthers others (after d h)) (sym is.1) has) a b (does_syncs tells history a b syncs)
+      keeps_does (HasOthers others) (IsSync)
+      (λ h deed is has. subst (λ (d : Deed). HasOthers others (after d h)) (sym is.1) has) a b (does_syncs a b syncs)

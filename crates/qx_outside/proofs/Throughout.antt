@@ -1,6 +1,7 @@
 -- What holds at each moment, carried on from deed to deed, from call to call, and from turn to turn.
 use Rattle.std.proofs.Common.{◌≡◌, ◌≤◌, ◌⊎◌, inl, inr, Bool, length, drop, zero, suc, arith, ℕ, List, [], ◌∷◌, ◌++◌, refl, ap, sym, ◌∙◌, subst, append_assoc, append-nil}
 use Rattle.std.specs.Prelude.{IsTrue}
+use Rattle.qx_outside.specs.Outside.{Outside}
 use Rattle.qx_outside.specs.Trail.{History, Deed, wrote, synced, sized, after}
 use Rattle.qx_outside.specs.Calls.{Idles, Did, Writes, Syncs, Sizes, IsOfConsole, Converses}
 use Rattle.qx_outside.specs.Moments.{grown, HoldsAlong, HoldsThroughout, Keeps, Moves, Reaches}
@@ -73,128 +74,127 @@ module _ (P Q : History → Type 0) (f : (h : History) → P h → Q h) where
 
 -- ---- calls
 
-module _ {D : Type 0} (tells : D → Bool) (history : D → History) where
-  -- what a call may do, as one deed with a fact of it, or none
-  pub record Does (F : Deed → Type 0) (old new : D) : Type 0 where
-    pub before : IsTrue (tells new) → IsTrue (tells old)
-    pub step : IsTrue (tells new) → (history new ≡ history old) ⊎ ((deed : Deed) × F deed × (history new ≡ after deed (history old)))
+-- what a call may do, as one deed with a fact of it, or none
+pub record Does (F : Deed → Type 0) (old new : Outside) : Type 0 where
+  pub before : IsTrue new.tells → IsTrue old.tells
+  pub step : IsTrue new.tells → (new.history ≡ old.history) ⊎ ((deed : Deed) × F deed × (new.history ≡ after deed old.history))
 
-  -- a write of these bytes there, well or not
-  abbrev pub IsWrite : ℕ → List ℕ → Deed → Type 0
-  IsWrite at asked deed = (left : List ℕ) × ((ok : Bool) × (length left ≡ length asked) × (deed ≡ wrote at asked left ok))
+-- a write of these bytes there, well or not
+abbrev pub IsWrite : ℕ → List ℕ → Deed → Type 0
+IsWrite at asked deed = (left : List ℕ) × ((ok : Bool) × (length left ≡ length asked) × (deed ≡ wrote at asked left ok))
 
-  abbrev pub IsSync : Deed → Type 0
-  IsSync deed = (ok : Bool) × (deed ≡ synced ok)
+abbrev pub IsSync : Deed → Type 0
+IsSync deed = (ok : Bool) × (deed ≡ synced ok)
 
-  abbrev pub IsSize : ℕ → Deed → Type 0
-  IsSize len deed = (ok : Bool) × (deed ≡ sized len ok)
+abbrev pub IsSize : ℕ → Deed → Type 0
+IsSize len deed = (ok : Bool) × (deed ≡ sized len ok)
 
-  pub does_writes : (at : ℕ) (asked : List ℕ) (a b : D) → Writes tells history at asked a b → Does (IsWrite at asked) a b
-  does_writes at asked a b w = record {
-    before = w.before;
-    step = λ t. elim (w.step t) [
-      | inl same ↦ inl same
-      | inr did ↦ inr (wrote at asked did.0 did.1.0, (did.0, (did.1.0, did.1.1, refl)), did.1.2)
+pub does_writes : (at : ℕ) (asked : List ℕ) (a b : Outside) → Writes at asked a b → Does (IsWrite at asked) a b
+does_writes at asked a b w = record {
+  before = w.before;
+  step = λ t. elim (w.step t) [
+    | inl same ↦ inl same
+    | inr did ↦ inr (wrote at asked did.0 did.1.0, (did.0, (did.1.0, did.1.1, refl)), did.1.2)
+  ];
+}
+
+pub does_syncs : (a b : Outside) → Syncs a b → Does IsSync a b
+does_syncs a b w = record {
+  before = w.before;
+  step = λ t. elim (w.step t) [
+    | inl same ↦ inl same
+    | inr did ↦ inr (synced did.0, (did.0, refl), did.1)
+  ];
+}
+
+pub does_sizes : (len : ℕ) (a b : Outside) → Sizes len a b → Does (IsSize len) a b
+does_sizes len a b w = record {
+  before = w.before;
+  step = λ t. elim (w.step t) [
+    | inl same ↦ inl same
+    | inr did ↦ inr (sized len did.0, (did.0, refl), did.1)
+  ];
+}
+
+pub does_converses : (a b : Outside) → Converses a b → Does IsOfConsole a b
+does_converses a b w = record { before = w.before; step = w.step }
+
+-- ---- a fact that is kept
+
+module _ (P : History → Type 0) where
+  pub keeps_here : (a : Outside) → Keeps P a a
+  keeps_here a = record { before = λ t. t; step = λ t p. throughout_here P a.history p }
+
+  pub keeps_then : (a b c : Outside) → Keeps P b c → Keeps P a b → Keeps P a c
+  keeps_then a b c l k = record {
+    before = λ t. k.before (l.before t);
+    step = λ t p. let first = k.step (l.before t) p in throughout_then P a.history b.history c.history first (l.step t (throughout_last P a.history b.history first));
+  }
+
+  pub keeps_idle : (a b : Outside) → Idles a b → Keeps P a b
+  keeps_idle a b i = record { before = i.before; step = λ t p. subst (λ (h : History). HoldsThroughout P a.history h) (sym (i.step t)) (throughout_here P a.history p) }
+
+  -- a call that does at most one deed, where such a deed keeps P
+  pub keeps_does : (F : Deed → Type 0) → ((h : History) (deed : Deed) → F deed → P h → P (after deed h)) → (a b : Outside) → Does F a b → Keeps P a b
+  keeps_does F f a b d = record {
+    before = d.before;
+    step = λ t p. elim (d.step t) [
+      | inl same ↦ subst (λ (h : History). HoldsThroughout P a.history h) (sym same) (throughout_here P a.history p)
+      | inr did ↦ subst (λ (h : History). HoldsThroughout P a.history h) (sym did.2) (throughout_more P a.history a.history did.0 (throughout_here P a.history p) (f a.history did.0 did.1 p))
     ];
   }
 
-  pub does_syncs : (a b : D) → Syncs tells history a b → Does IsSync a b
-  does_syncs a b w = record {
-    before = w.before;
-    step = λ t. elim (w.step t) [
-      | inl same ↦ inl same
-      | inr did ↦ inr (synced did.0, (did.0, refl), did.1)
-    ];
+-- ---- from one state to the next
+
+module _ (L M N Q : History → Type 0) where
+  pub moves_here : ((h : History) → L h → Q h) → (a : Outside) → Moves L L Q a a
+  moves_here q a = record { before = λ t. t; step = λ t l. (throughout_here Q a.history (q a.history l), l) }
+
+  pub moves_idle : (a b c : Outside) → Idles b c → Moves L M Q a b → Moves L M Q a c
+  moves_idle a b c i m = record {
+    before = λ t. m.before (i.before t);
+    step = λ t l. subst (λ (h : History). HoldsThroughout Q a.history h × M h) (sym (i.step t)) (m.step (i.before t) l);
   }
 
-  pub does_sizes : (len : ℕ) (a b : D) → Sizes tells history len a b → Does (IsSize len) a b
-  does_sizes len a b w = record {
-    before = w.before;
-    step = λ t. elim (w.step t) [
-      | inl same ↦ inl same
-      | inr did ↦ inr (sized len did.0, (did.0, refl), did.1)
-    ];
+  -- a deed that was done leads from M to N
+  pub moves_did : (deed : Deed) → ((h : History) → M h → N (after deed h)) → ((h : History) → N h → Q h) → (a b c : Outside) → Did deed b c → Moves L M Q a b → Moves L N Q a c
+  moves_did deed f q a b c d m = record {
+    before = λ t. m.before (d.before t);
+    step = λ t l.
+        let x = m.step (d.before t) l in
+        let n : N (after deed b.history) = f b.history x.1 in
+        subst (λ (h : History). HoldsThroughout Q a.history h × N h) (sym (d.step t)) (throughout_more Q a.history b.history deed x.0 (q (after deed b.history) n), n);
   }
 
-  pub does_converses : (a b : D) → Converses tells history a b → Does IsOfConsole a b
-  does_converses a b w = record { before = w.before; step = w.step }
+  -- a call that does at most one deed, of which each leaves Q
+  pub reaches_does : (F : Deed → Type 0) → ((h : History) (deed : Deed) → F deed → M h → Q (after deed h)) → (a b c : Outside) → Does F b c → Moves L M Q a b → Reaches L Q a c
+  reaches_does F f a b c d m = record {
+    before = λ t. m.before (d.before t);
+    step = λ t l.
+        let x = m.step (d.before t) l in
+        elim (d.step t) [
+          | inl same ↦ subst (λ (h : History). HoldsThroughout Q a.history h) (sym same) x.0
+          | inr did ↦ subst (λ (h : History). HoldsThroughout Q a.history h) (sym did.2) (throughout_more Q a.history b.history did.0 x.0 (f b.history did.0 did.1 x.1))
+        ];
+  }
 
-  -- ---- a fact that is kept
+  pub reaches_moves : (a b : Outside) → Moves L M Q a b → Reaches L Q a b
+  reaches_moves a b m = record { before = m.before; step = λ t l. (m.step t l).0 }
 
-  module _ (P : History → Type 0) where
-    pub keeps_here : (a : D) → Keeps tells history P a a
-    keeps_here a = record { before = λ t. t; step = λ t p. throughout_here P (history a) p }
+  -- two runs, one after the other
+  pub moves_then : (a b c : Outside) → Moves M N Q b c → Moves L M Q a b → Moves L N Q a c
+  moves_then a b c second first = record {
+    before = λ t. first.before (second.before t);
+    step = λ t l.
+        let x = first.step (second.before t) l in
+        let y = second.step t x.1 in
+        (throughout_then Q a.history b.history c.history x.0 y.0, y.1);
+  }
 
-    pub keeps_then : (a b c : D) → Keeps tells history P b c → Keeps tells history P a b → Keeps tells history P a c
-    keeps_then a b c l k = record {
-      before = λ t. k.before (l.before t);
-      step = λ t p. let first = k.step (l.before t) p in throughout_then P (history a) (history b) (history c) first (l.step t (throughout_last P (history a) (history b) first));
-    }
-
-    pub keeps_idle : (a b : D) → Idles tells history a b → Keeps tells history P a b
-    keeps_idle a b i = record { before = i.before; step = λ t p. subst (λ (h : History). HoldsThroughout P (history a) h) (sym (i.step t)) (throughout_here P (history a) p) }
-
-    -- a call that does at most one deed, where such a deed keeps P
-    pub keeps_does : (F : Deed → Type 0) → ((h : History) (deed : Deed) → F deed → P h → P (after deed h)) → (a b : D) → Does F a b → Keeps tells history P a b
-    keeps_does F f a b d = record {
-      before = d.before;
-      step = λ t p. elim (d.step t) [
-        | inl same ↦ subst (λ (h : History). HoldsThroughout P (history a) h) (sym same) (throughout_here P (history a) p)
-        | inr did ↦ subst (λ (h : History). HoldsThroughout P (history a) h) (sym did.2) (throughout_more P (history a) (history a) did.0 (throughout_here P (history a) p) (f (history a) did.0 did.1 p))
-      ];
-    }
-
-  -- ---- from one state to the next
-
-  module _ (L M N Q : History → Type 0) where
-    pub moves_here : ((h : History) → L h → Q h) → (a : D) → Moves tells history L L Q a a
-    moves_here q a = record { before = λ t. t; step = λ t l. (throughout_here Q (history a) (q (history a) l), l) }
-
-    pub moves_idle : (a b c : D) → Idles tells history b c → Moves tells history L M Q a b → Moves tells history L M Q a c
-    moves_idle a b c i m = record {
-      before = λ t. m.before (i.before t);
-      step = λ t l. subst (λ (h : History). HoldsThroughout Q (history a) h × M h) (sym (i.step t)) (m.step (i.before t) l);
-    }
-
-    -- a deed that was done leads from M to N
-    pub moves_did : (deed : Deed) → ((h : History) → M h → N (after deed h)) → ((h : History) → N h → Q h) → (a b c : D) → Did tells history deed b c → Moves tells history L M Q a b → Moves tells history L N Q a c
-    moves_did deed f q a b c d m = record {
-      before = λ t. m.before (d.before t);
-      step = λ t l.
-          let x = m.step (d.before t) l in
-          let n : N (after deed (history b)) = f (history b) x.1 in
-          subst (λ (h : History). HoldsThroughout Q (history a) h × N h) (sym (d.step t)) (throughout_more Q (history a) (history b) deed x.0 (q (after deed (history b)) n), n);
-    }
-
-    -- a call that does at most one deed, of which each leaves Q
-    pub reaches_does : (F : Deed → Type 0) → ((h : History) (deed : Deed) → F deed → M h → Q (after deed h)) → (a b c : D) → Does F b c → Moves tells history L M Q a b → Reaches tells history L Q a c
-    reaches_does F f a b c d m = record {
-      before = λ t. m.before (d.before t);
-      step = λ t l.
-          let x = m.step (d.before t) l in
-          elim (d.step t) [
-            | inl same ↦ subst (λ (h : History). HoldsThroughout Q (history a) h) (sym same) x.0
-            | inr did ↦ subst (λ (h : History). HoldsThroughout Q (history a) h) (sym did.2) (throughout_more Q (history a) (history b) did.0 x.0 (f (history b) did.0 did.1 x.1))
-          ];
-    }
-
-    pub reaches_moves : (a b : D) → Moves tells history L M Q a b → Reaches tells history L Q a b
-    reaches_moves a b m = record { before = m.before; step = λ t l. (m.step t l).0 }
-
-    -- two runs, one after the other
-    pub moves_then : (a b c : D) → Moves tells history M N Q b c → Moves tells history L M Q a b → Moves tells history L N Q a c
-    moves_then a b c second first = record {
-      before = λ t. first.before (second.before t);
-      step = λ t l.
-          let x = first.step (second.before t) l in
-          let y = second.step t x.1 in
-          (throughout_then Q (history a) (history b) (history c) x.0 y.0, y.1);
-    }
-
-    pub reaches_then : (a b c : D) → Reaches tells history M Q b c → Moves tells history L M Q a b → Reaches tells history L Q a c
-    reaches_then a b c second first = record {
-      before = λ t. first.before (second.before t);
-      step = λ t l.
-          let x = first.step (second.before t) l in
-          throughout_then Q (history a) (history b) (history c) x.0 (second.step t x.1);
-    }
+  pub reaches_then : (a b c : Outside) → Reaches M Q b c → Moves L M Q a b → Reaches L Q a c
+  reaches_then a b c second first = record {
+    before = λ t. first.before (second.before t);
+    step = λ t l.
+        let x = first.step (second.before t) l in
+        throughout_then Q a.history b.history c.history x.0 (second.step t x.1);
+  }

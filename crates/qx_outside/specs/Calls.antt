@@ -1,51 +1,50 @@
 -- What one call does to a host that tells: its history before and after, whatever else it keeps.
 -- `before` says that what is told after was told before.
-use Rattle.std.specs.Prelude.{ℕ, ◌≡◌, ◌+◌, ◌≤◌, Bool, false, List, ◌⊎◌, length, take, IsTrue, Option}
+use Rattle.std.specs.Prelude.{ℕ, ◌≡◌, ◌+◌, ◌≤◌, Bool, false, List, ◌⊎◌, length, take, IsTrue}
 use Rattle.std.specs.Option.{option_map}
-use Rattle.qx_outside.specs.declared.event.Attachment.{Attachment}
+use Rattle.qx_outside.specs.Outside.{Outside}
 use Rattle.qx_outside.specs.Causes.{StaysWhereTold}
-use Rattle.qx_outside.specs.Trail.{History, Deed, took, gave, wrote, synced, sized, told_moment, after}
+use Rattle.qx_outside.specs.Trail.{Deed, took, gave, wrote, synced, sized, told_moment, after}
 
-module _ {D : Type 0} (tells : D → Bool) (history : D → History) where
-  -- nothing was done
-  pub record Idles (old new : D) : Type 0 where
-    pub before : IsTrue (tells new) → IsTrue (tells old)
-    pub step : IsTrue (tells new) → history new ≡ history old
+-- nothing was done
+pub record Idles (old new : Outside) : Type 0 where
+  pub before : IsTrue new.tells → IsTrue old.tells
+  pub step : IsTrue new.tells → new.history ≡ old.history
 
-  -- this deed was done
-  pub record Did (deed : Deed) (old new : D) : Type 0 where
-    pub before : IsTrue (tells new) → IsTrue (tells old)
-    pub step : IsTrue (tells new) → history new ≡ after deed (history old)
+-- this deed was done
+pub record Did (deed : Deed) (old new : Outside) : Type 0 where
+  pub before : IsTrue new.tells → IsTrue old.tells
+  pub step : IsTrue new.tells → new.history ≡ after deed old.history
 
-  -- this deed was done, or none
-  pub record MayDo (deed : Deed) (old new : D) : Type 0 where
-    pub before : IsTrue (tells new) → IsTrue (tells old)
-    pub step : IsTrue (tells new) → (history new ≡ history old) ⊎ (history new ≡ after deed (history old))
+-- this deed was done, or none
+pub record MayDo (deed : Deed) (old new : Outside) : Type 0 where
+  pub before : IsTrue new.tells → IsTrue old.tells
+  pub step : IsTrue new.tells → (new.history ≡ old.history) ⊎ (new.history ≡ after deed old.history)
 
-  -- these bytes were asked to be put there, well or not, or nothing was done
-  pub record Writes (at : ℕ) (asked : List ℕ) (old new : D) : Type 0 where
-    pub before : IsTrue (tells new) → IsTrue (tells old)
-    pub step : IsTrue (tells new) → (history new ≡ history old) ⊎ ((left : List ℕ) × ((ok : Bool) × (length left ≡ length asked) × (history new ≡ after (wrote at asked left ok) (history old))))
+-- these bytes were asked to be put there, well or not, or nothing was done
+pub record Writes (at : ℕ) (asked : List ℕ) (old new : Outside) : Type 0 where
+  pub before : IsTrue new.tells → IsTrue old.tells
+  pub step : IsTrue new.tells → (new.history ≡ old.history) ⊎ ((left : List ℕ) × ((ok : Bool) × (length left ≡ length asked) × (new.history ≡ after (wrote at asked left ok) old.history)))
 
-  -- the write failed: any bytes may stand there, or nothing was done
-  pub record FailsToWrite (at : ℕ) (asked : List ℕ) (old new : D) : Type 0 where
-    pub before : IsTrue (tells new) → IsTrue (tells old)
-    pub step : IsTrue (tells new) → (history new ≡ history old) ⊎ ((left : List ℕ) × (length left ≡ length asked) × (history new ≡ after (wrote at asked left false) (history old)))
+-- the write failed: any bytes may stand there, or nothing was done
+pub record FailsToWrite (at : ℕ) (asked : List ℕ) (old new : Outside) : Type 0 where
+  pub before : IsTrue new.tells → IsTrue old.tells
+  pub step : IsTrue new.tells → (new.history ≡ old.history) ⊎ ((left : List ℕ) × (length left ≡ length asked) × (new.history ≡ after (wrote at asked left false) old.history))
 
-  -- a sync was asked for, well or not, or nothing was done
-  pub record Syncs (old new : D) : Type 0 where
-    pub before : IsTrue (tells new) → IsTrue (tells old)
-    pub step : IsTrue (tells new) → (history new ≡ history old) ⊎ ((ok : Bool) × (history new ≡ after (synced ok) (history old)))
+-- a sync was asked for, well or not, or nothing was done
+pub record Syncs (old new : Outside) : Type 0 where
+  pub before : IsTrue new.tells → IsTrue old.tells
+  pub step : IsTrue new.tells → (new.history ≡ old.history) ⊎ ((ok : Bool) × (new.history ≡ after (synced ok) old.history))
 
-  -- this length was asked for, well or not, or nothing was done
-  pub record Sizes (len : ℕ) (old new : D) : Type 0 where
-    pub before : IsTrue (tells new) → IsTrue (tells old)
-    pub step : IsTrue (tells new) → (history new ≡ history old) ⊎ ((ok : Bool) × (history new ≡ after (sized len ok) (history old)))
+-- this length was asked for, well or not, or nothing was done
+pub record Sizes (len : ℕ) (old new : Outside) : Type 0 where
+  pub before : IsTrue new.tells → IsTrue old.tells
+  pub step : IsTrue new.tells → (new.history ≡ old.history) ⊎ ((ok : Bool) × (new.history ≡ after (sized len ok) old.history))
 
-  -- a prefix of these bytes was given, or nothing was done
-  pub record FailsToGive (bytes : List ℕ) (old new : D) : Type 0 where
-    pub before : IsTrue (tells new) → IsTrue (tells old)
-    pub step : IsTrue (tells new) → (history new ≡ history old) ⊎ ((n : ℕ) × (n ≤ length bytes) × (history new ≡ after (gave (take n bytes)) (history old)))
+-- a prefix of these bytes was given, or nothing was done
+pub record FailsToGive (bytes : List ℕ) (old new : Outside) : Type 0 where
+  pub before : IsTrue new.tells → IsTrue old.tells
+  pub step : IsTrue new.tells → (new.history ≡ old.history) ⊎ ((n : ℕ) × (n ≤ length bytes) × (new.history ≡ after (gave (take n bytes)) old.history))
 
 -- the deed is of the console or the clock
 abbrev pub IsOfConsole : Deed → Type 0
@@ -57,31 +56,31 @@ IsOfConsole (synced ok) = ⊥
 IsOfConsole (sized len ok) = ⊥
 
 -- at most one deed was done, of the console or the clock
-pub record Converses {D : Type 0} (tells : D → Bool) (history : D → History) (old new : D) : Type 0 where
-  pub before : IsTrue (tells new) → IsTrue (tells old)
-  pub step : IsTrue (tells new) → (history new ≡ history old) ⊎ ((deed : Deed) × IsOfConsole deed × (history new ≡ after deed (history old)))
+pub record Converses (old new : Outside) : Type 0 where
+  pub before : IsTrue new.tells → IsTrue old.tells
+  pub step : IsTrue new.tells → (new.history ≡ old.history) ⊎ ((deed : Deed) × IsOfConsole deed × (new.history ≡ after deed old.history))
 
 -- a call of the device leaves the console alone
-pub record LeavesConsole {D : Type 0} (attached : D → Option (List Attachment)) (con_faults : D → ℕ) (old new : D) : Type 0 where
-  pub paths : attached new ≡ attached old
-  pub console : con_faults new ≡ con_faults old
+pub record LeavesConsole (old new : Outside) : Type 0 where
+  pub paths : new.attached ≡ old.attached
+  pub console : new.con_faults ≡ old.con_faults
 
 -- a call of the device that neither reads its bytes nor sets its length leaves all but its history and its count of faults
-pub record LeavesRest {D : Type 0} (extent : D → Option ℕ) (attached : D → Option (List Attachment)) (dev_reads : D → Option ℕ) (con_faults : D → ℕ) (old new : D) : Type 0 where
-  pub extent_same : StaysWhereTold (extent old) (extent new)
-  pub paths : attached new ≡ attached old
-  pub reads : dev_reads new ≡ dev_reads old
-  pub console : con_faults new ≡ con_faults old
+pub record LeavesRest (old new : Outside) : Type 0 where
+  pub extent_same : StaysWhereTold old.extent new.extent
+  pub paths : new.attached ≡ old.attached
+  pub reads : new.dev_reads ≡ old.dev_reads
+  pub console : new.con_faults ≡ old.con_faults
 
 -- a call of the console or the clock leaves the device alone
-pub record LeavesDevice {D : Type 0} (extent : D → Option ℕ) (attached : D → Option (List Attachment)) (dev_reads : D → Option ℕ) (dev_faults : D → ℕ) (old new : D) : Type 0 where
-  pub extent_same : StaysWhereTold (extent old) (extent new)
-  pub paths : attached new ≡ attached old
-  pub reads : dev_reads new ≡ dev_reads old
-  pub device : dev_faults new ≡ dev_faults old
+pub record LeavesDevice (old new : Outside) : Type 0 where
+  pub extent_same : StaysWhereTold old.extent new.extent
+  pub paths : new.attached ≡ old.attached
+  pub reads : new.dev_reads ≡ old.dev_reads
+  pub device : new.dev_faults ≡ old.dev_faults
 
 -- at most so many device reads were Ok, where they are counted
-pub record ReadsAtMost {D : Type 0} (dev_reads : D → Option ℕ) (most : ℕ) (old new : D) : Type 0 where
+pub record ReadsAtMost (most : ℕ) (old new : Outside) : Type 0 where
   pub count : ℕ
   pub few : count ≤ most
-  pub reads : dev_reads new ≡ option_map (λ n. n + count) (dev_reads old)
+  pub reads : new.dev_reads ≡ option_map (λ n. n + count) old.dev_reads

@@ -1,5 +1,6 @@
 pub use Rattle.qx_bytes.specs.Ranges
 pub mod Trail
+pub mod Outside
 pub mod Causes
 pub mod Calls
 pub mod Images

@@ -1,42 +1,30 @@
 -- What a host in memory tells, and the rules by which its calls go.
 use Rattle.std.specs.Prelude.{ℕ, ◌≡◌, ◌+◌, ◌-◌, ◌/◌, ◌^◌, min, Bool, true, false, List, ◌++◌, length, take, drop, reverse, slice_range, slice_index, nat_le, nat_lt, Option, Some, None, if◌then◌else◌}
 use Rattle.std.specs.Option.{option_map}
-use Rattle.qx_outside.specs.declared.event.Attachment.{Attachment}
 use Rattle.qx_outside.specs.declared.memory.MemHost.{MemHost}
 use Rattle.qx_outside.specs.declared.schedule.Fate.{Fate}
 use Rattle.qx_outside.specs.declared.schedule.Fate.TheVariants.{Good, Bad, NoRoom}
+use Rattle.qx_outside.specs.Outside.{Outside}
 use Rattle.qx_outside.specs.Trail.{History, Deed, after, deeds_of}
 use Rattle.qx_outside.specs.Schedule.{fate_of}
 
 -- ---- what it tells
 
--- it always tells
-abbrev pub all_told : MemHost → Bool
-all_told h = true
-
--- the start, and the deeds of its log
+-- its history: the start, and the deeds of its log
 abbrev pub history_of : MemHost → History
 history_of h = record { starting = h.start.items; deeds = deeds_of (reverse h.log.trail.items) (reverse h.log.asked.items) }
 
--- what was attached, the newest first
-abbrev pub attached_of : MemHost → Option (List Attachment)
-attached_of h = option_map (λ paths. reverse paths.items.items) h.attached
-
--- the length of its bytes
-abbrev pub extent_of : MemHost → Option ℕ
-extent_of h = Some (length h.bytes.items)
-
--- how many reads were Ok
-abbrev pub reads_of : MemHost → Option ℕ
-reads_of h = Some h.schedule.reads
-
--- how many device calls failed
-abbrev pub dev_faults_of : MemHost → ℕ
-dev_faults_of h = h.dev_faults
-
--- how many calls of the console and the clock failed
-abbrev pub con_faults_of : MemHost → ℕ
-con_faults_of h = h.con_faults
+-- it always tells
+abbrev pub outside_of : MemHost → Outside
+outside_of h = record {
+  tells = true;
+  history = history_of h;
+  extent = Some (length h.bytes.items);
+  attached = option_map (λ paths. reverse paths.items.items) h.attached;
+  dev_reads = Some h.schedule.reads;
+  dev_faults = h.dev_faults;
+  con_faults = h.con_faults;
+}
 
 -- whether a copy of its own found no memory so far
 abbrev pub lacked_of : MemHost → Bool

@@ -1,5 +1,6 @@
 -- What holds at each moment of a run: of the history before it, of each one on the way, and of the one after it.
-use Rattle.std.specs.Prelude.{Bool, IsTrue, ◌≡◌, List, [], ◌∷◌, ◌++◌}
+use Rattle.std.specs.Prelude.{IsTrue, ◌≡◌, List, [], ◌∷◌, ◌++◌}
+use Rattle.qx_outside.specs.Outside.{Outside}
 use Rattle.qx_outside.specs.Trail.{History, Deed, others_of}
 
 -- the history after these deeds, the newest first
@@ -21,18 +22,17 @@ pub record HoldsThroughout (P : History → Type 0) (old new : History) : Type 0
 abbrev pub HasOthers : List Deed → History → Type 0
 HasOthers others h = others_of h.deeds ≡ others
 
-module _ {D : Type 0} (tells : D → Bool) (history : D → History) where
-  -- where P holds before, it holds at each moment
-  pub record Keeps (P : History → Type 0) (old new : D) : Type 0 where
-    pub before : IsTrue (tells new) → IsTrue (tells old)
-    pub step : IsTrue (tells new) → P (history old) → HoldsThroughout P (history old) (history new)
+-- where P holds before, it holds at each moment
+pub record Keeps (P : History → Type 0) (old new : Outside) : Type 0 where
+  pub before : IsTrue new.tells → IsTrue old.tells
+  pub step : IsTrue new.tells → P old.history → HoldsThroughout P old.history new.history
 
-  -- where L holds before, Q holds at each moment, and M after
-  pub record Moves (L M Q : History → Type 0) (old new : D) : Type 0 where
-    pub before : IsTrue (tells new) → IsTrue (tells old)
-    pub step : IsTrue (tells new) → L (history old) → HoldsThroughout Q (history old) (history new) × M (history new)
+-- where L holds before, Q holds at each moment, and M after
+pub record Moves (L M Q : History → Type 0) (old new : Outside) : Type 0 where
+  pub before : IsTrue new.tells → IsTrue old.tells
+  pub step : IsTrue new.tells → L old.history → HoldsThroughout Q old.history new.history × M new.history
 
-  -- where L holds before, Q holds at each moment
-  pub record Reaches (L Q : History → Type 0) (old new : D) : Type 0 where
-    pub before : IsTrue (tells new) → IsTrue (tells old)
-    pub step : IsTrue (tells new) → L (history old) → HoldsThroughout Q (history old) (history new)
+-- where L holds before, Q holds at each moment
+pub record Reaches (L Q : History → Type 0) (old new : Outside) : Type 0 where
+  pub before : IsTrue new.tells → IsTrue old.tells
+  pub step : IsTrue new.tells → L old.history → HoldsThroughout Q old.history new.history

@@ -12,25 +12,25 @@ pub trait Host: Dev {
     fn take(&mut self, into: &mut [u8]) -> Result<usize, Failed>
         requires { 0 < length into.old }
         ensures count { IfOk result (λ n. n ≤ length into.new) }
-        ensures ok { IfOk result (λ n. Did Self.tells Self.history (took (take n into.new)) self.old self.new) }
-        ensures err { OnErr result (Idles Self.tells Self.history self.old self.new) }
-        ensures step { Converses Self.tells Self.history self.old self.new }
-        ensures others { LeavesDevice Self.extent Self.attached Self.dev_reads Self.dev_faults self.old self.new }
-        ensures cause { HasCause (Self.con_faults self.old) (Self.con_faults self.new) result };
+        ensures ok { IfOk result (λ n. Did (took (take n into.new)) (Self.outside self.old) (Self.outside self.new)) }
+        ensures err { OnErr result (Idles (Self.outside self.old) (Self.outside self.new)) }
+        ensures step { Converses (Self.outside self.old) (Self.outside self.new) }
+        ensures others { LeavesDevice (Self.outside self.old) (Self.outside self.new) }
+        ensures cause { HasCause (Self.outside self.old).con_faults (Self.outside self.new).con_faults result };
 
     /// Writes all bytes to the output. After a failure a prefix of them was written.
     fn put(&mut self, bytes: &[u8]) -> Result<(), Failed>
-        ensures ok { OnOk result (Did Self.tells Self.history (gave bytes.now) self.old self.new) }
-        ensures err { OnErr result (FailsToGive Self.tells Self.history bytes.now self.old self.new) }
-        ensures step { Converses Self.tells Self.history self.old self.new }
-        ensures others { LeavesDevice Self.extent Self.attached Self.dev_reads Self.dev_faults self.old self.new }
-        ensures cause { HasCause (Self.con_faults self.old) (Self.con_faults self.new) result };
+        ensures ok { OnOk result (Did (gave bytes.now) (Self.outside self.old) (Self.outside self.new)) }
+        ensures err { OnErr result (FailsToGive bytes.now (Self.outside self.old) (Self.outside self.new)) }
+        ensures step { Converses (Self.outside self.old) (Self.outside self.new) }
+        ensures others { LeavesDevice (Self.outside self.old) (Self.outside self.new) }
+        ensures cause { HasCause (Self.outside self.old).con_faults (Self.outside self.new).con_faults result };
 
     /// The moment, in seconds since 1970.
     fn now(&mut self) -> Result<u32, Failed>
-        ensures ok { IfOk result (λ moment. Did Self.tells Self.history (told_moment moment) self.old self.new) }
-        ensures err { OnErr result (Idles Self.tells Self.history self.old self.new) }
-        ensures step { Converses Self.tells Self.history self.old self.new }
-        ensures others { LeavesDevice Self.extent Self.attached Self.dev_reads Self.dev_faults self.old self.new }
-        ensures cause { HasCause (Self.con_faults self.old) (Self.con_faults self.new) result };
+        ensures ok { IfOk result (λ moment. Did (told_moment moment) (Self.outside self.old) (Self.outside self.new)) }
+        ensures err { OnErr result (Idles (Self.outside self.old) (Self.outside self.new)) }
+        ensures step { Converses (Self.outside self.old) (Self.outside self.new) }
+        ensures others { LeavesDevice (Self.outside self.old) (Self.outside self.new) }
+        ensures cause { HasCause (Self.outside self.old).con_faults (Self.outside self.new).con_faults result };
 }

@@ -36,7 +36,7 @@ pub struct MemHost {
 }
 
 impl MemHost {
-    ghost use Rattle.qx_outside.specs.Memory.{history_of, setup_of, extent_of, attached_of, reads_of, dev_faults_of, con_faults_of, lacked_of};
+    ghost use Rattle.qx_outside.specs.Memory.{outside_of, setup_of, lacked_of};
 
     /// A host over a device of these bytes, with this input. The k-th asking of the clock gives the k-th moment, then the last one again, or 0 where there is none.
     /// `failing` has the numbers of calls that fail, and `room` is how many events the trail can have.
@@ -48,12 +48,12 @@ impl MemHost {
         failing: Vec<u64>,
         room: usize,
     ) -> Result<MemHost, AllocError>
-        ensures history { IfOk result (λ h. history_of h ≡ record { starting = bytes.items; deeds = [] }) }
+        ensures history { IfOk result (λ h. (outside_of h).history ≡ record { starting = bytes.items; deeds = [] }) }
         ensures setup { IfOk result (λ h. setup_of h ≡ record { failing = failing.items; calls = 0; room = room; input = input.items; moments = moments.items; moments_told = 0 }) }
-        ensures length { IfOk result (λ h. extent_of h ≡ Some (length bytes.items)) }
-        ensures attached { IfOk result (λ h. attached_of h ≡ Some []) }
-        ensures reads { IfOk result (λ h. reads_of h ≡ Some 0) }
-        ensures faults { IfOk result (λ h. (dev_faults_of h ≡ 0) × (con_faults_of h ≡ 0)) }
+        ensures length { IfOk result (λ h. (outside_of h).extent ≡ Some (length bytes.items)) }
+        ensures attached { IfOk result (λ h. (outside_of h).attached ≡ Some []) }
+        ensures reads { IfOk result (λ h. (outside_of h).dev_reads ≡ Some 0) }
+        ensures faults { IfOk result (λ h. ((outside_of h).dev_faults ≡ 0) × ((outside_of h).con_faults ≡ 0)) }
         ensures memory { IfOk result (λ h. lacked_of h ≡ false) }
     {
         let start = bytes.as_slice().to_vec(alloc)?;
@@ -83,7 +83,7 @@ impl MemHost {
 
     /// The device's bytes.
     pub fn bytes(&self) -> &[u8]
-        ensures { result.now ≡ bytes_of (history_of self.now) }
+        ensures { result.now ≡ bytes_of (outside_of self.now).history }
     {
         let _whole = &self.log;
         &self.bytes
@@ -92,14 +92,14 @@ impl MemHost {
     /// The events in real order.
     #[tactic(auto, using(crate::proofs::Events::trail_of_events))]
     pub fn trail(&self) -> &[Event]
-        ensures { result.now ≡ trail_of (history_of self.now) }
+        ensures { result.now ≡ trail_of (outside_of self.now).history }
     {
         &self.log.trail
     }
 
     /// How many device reads were Ok.
     pub fn reads(&self) -> u64
-        ensures { reads_of self.now ≡ Some result }
+        ensures { (outside_of self.now).dev_reads ≡ Some result }
     {
         self.schedule.reads
     }
@@ -113,7 +113,7 @@ impl MemHost {
 
     /// All bytes that were put.
     pub fn output(&self) -> Result<Vec<u8>, AllocError>
-        ensures { IfOk result (λ all. all.items ≡ output (history_of self.now)) }
+        ensures { IfOk result (λ all. all.items ≡ output (outside_of self.now).history) }
     {
         let mut all = Vec::new(self.alloc);
         for event in &self.log.trail {

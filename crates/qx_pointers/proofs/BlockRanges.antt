@@ -1,12 +1,13 @@
 -- Bytes that are read at once, as those of blocks.
 use Rattle.std.proofs.Common.{◌≡◌, ℕ, ◌+◌, ◌-◌, ◌*◌, ◌≤◌, List, length, take, drop, sym, ◌∙◌, ap, subst, arith}
-use Rattle.std.specs.Prelude.{Bool, IsTrue, slice_range}
+use Rattle.std.specs.Prelude.{IsTrue, slice_range}
 use Rattle.std.proofs.lemmas.List.{drop-drop, drop-take, take-take}
 use Rattle.std.proofs.Math.Nat.{add-mul}
 use Rattle.qx_geom.specs.Layout.{blocks_begin}
 use Rattle.qx_nodes.specs.BlockMap.{BlockMap}
 use Rattle.qx_outside.specs.Calls.{Idles}
-use Rattle.qx_outside.specs.Trail.{History, bytes_of}
+use Rattle.qx_outside.specs.Outside.{Outside}
+use Rattle.qx_outside.specs.Trail.{bytes_of}
 use Rattle.qx_pointers.specs.declared.source.Shape.{Shape}
 use Rattle.qx_pointers.specs.Shown.{HasBlocks, Shows}
 
@@ -38,24 +39,24 @@ range_end bytes at size r n is =
 
 -- ---- blocks
 
-module _ {D : Type 0} {tells : D → Bool} {history : D → History} (shape : Shape) (old new : D) (m : BlockMap) where
+module _ (shape : Shape) (old new : Outside) (m : BlockMap) where
   -- bytes that were read from one of a block's on
-  pub block_end : (block at from n : ℕ) (read : List ℕ) → Shows tells history shape new m → Idles tells history old new → at ≡ blocks_begin + block * shape.blocksize → from + n ≡ shape.blocksize
-      → (IsTrue (tells new) → read ≡ slice_range (bytes_of (history old)) (at + from) (at + from + n)) → read ≡ drop from (m.bytes block)
+  pub block_end : (block at from n : ℕ) (read : List ℕ) → Shows shape new m → Idles old new → at ≡ blocks_begin + block * shape.blocksize → from + n ≡ shape.blocksize
+      → (IsTrue new.tells → read ≡ slice_range (bytes_of old.history) (at + from) (at + from + n)) → read ≡ drop from (m.bytes block)
   block_end block at from n read s idle place is e =
-      let img : List ℕ = bytes_of (history new) in
-      let same : bytes_of (history old) ≡ img = ap bytes_of (sym (idle.step s.told)) in
+      let img : List ℕ = bytes_of new.history in
+      let same : bytes_of old.history ≡ img = ap bytes_of (sym (idle.step s.told)) in
       e s.told ∙ ap (λ l. slice_range l (at + from) (at + from + n)) same ∙ sym (range_end img at shape.blocksize from n is)
       ∙ ap (λ k. drop from (slice_range img k (k + shape.blocksize))) place ∙ sym (ap (λ (b : BlockMap). drop from (b.bytes block)) s.is)
 
   -- bytes that were read from a block's first on
-  pub blocks_side : (first at n : ℕ) (read : List ℕ) → Shows tells history shape new m → Idles tells history old new → at ≡ blocks_begin + first * shape.blocksize → length read ≡ n
-      → (IsTrue (tells new) → read ≡ slice_range (bytes_of (history old)) at (at + n)) → HasBlocks m first read
+  pub blocks_side : (first at n : ℕ) (read : List ℕ) → Shows shape new m → Idles old new → at ≡ blocks_begin + first * shape.blocksize → length read ≡ n
+      → (IsTrue new.tells → read ≡ slice_range (bytes_of old.history) at (at + n)) → HasBlocks m first read
   blocks_side first at n read s idle place long e = subst (λ b. HasBlocks b first read) (sym s.is) (record {
     each = λ k room.
         let size : ℕ = shape.blocksize in
-        let img : List ℕ = bytes_of (history new) in
-        let same : bytes_of (history old) ≡ img = ap bytes_of (sym (idle.step s.told)) in
+        let img : List ℕ = bytes_of new.history in
+        let same : bytes_of old.history ≡ img = ap bytes_of (sym (idle.step s.told)) in
         let begins : at + k * size ≡ blocks_begin + (first + k) * size = omega (arith, place, add-mul first k size) in
         ap (λ l. slice_range l (k * size) (k * size + size)) (e s.told ∙ ap (λ l. slice_range l at (at + n)) same)
         ∙ range_within img at n (k * size) size (omega (arith, room, long))

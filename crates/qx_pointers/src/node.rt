@@ -115,11 +115,11 @@ pub fn walk_node<D: Dev>(
 ) -> Result<Part, Halt>
     requires met { limit_of met.old ≡ visitor.now.shape.count }
     requires leaves { leaves.old.items ≡ [] }
-    requires fits { Fits D.extent visitor.now.shape host.old }
-    ensures tests { (m : BlockMap) → Shows D.tells D.history visitor.now.shape host.new m
+    requires fits { Fits visitor.now.shape (D.outside host.old) }
+    ensures tests { (m : BlockMap) → Shows visitor.now.shape (D.outside host.new) m
         → GoesThrough (node_tests m visitor.now.inode node.now (if visitor.now.bounded then root_fits m node.now else levels_fit m node.now)) result met.old met.new }
-    ensures part { (m : BlockMap) → Shows D.tells D.history visitor.now.shape host.new m → IfOk result (IsWhole m node.now) }
-    ensures leaves { (m : BlockMap) → Shows D.tells D.history visitor.now.shape host.new m
+    ensures part { (m : BlockMap) → Shows visitor.now.shape (D.outside host.new) m → IfOk result (IsWhole m node.now) }
+    ensures leaves { (m : BlockMap) → Shows visitor.now.shape (D.outside host.new) m
         → OnOk result (leaves.new.items ≡ kept_leaves visitor.now.keeps (visits_of m node.now)) }
 
     // Whether the device tells or not.
@@ -128,9 +128,9 @@ pub fn walk_node<D: Dev>(
     ensures placed { OnOk result (All (IsPlaced visitor.now.shape node.now) leaves.new.items) }
     ensures end { IfOk result (λ part. IfSome part.end (λ block. block < visitor.now.shape.count)) }
     ensures limit { limit_of met.new ≡ limit_of met.old }
-    ensures fits { Fits D.extent visitor.now.shape host.new }
-    ensures reads { JustReads D.tells D.history D.attached D.con_faults host.old host.new }
-    ensures cause { IsCaused (D.dev_faults host.old) (D.dev_faults host.new) result }
+    ensures fits { Fits visitor.now.shape (D.outside host.new) }
+    ensures reads { JustReads (D.outside host.old) (D.outside host.new) }
+    ensures cause { IsCaused (D.outside host.old).dev_faults (D.outside host.new).dev_faults result }
 {
     if !visitor.fits(node) {
         return Err(Halt::Finding {

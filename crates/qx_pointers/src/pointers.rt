@@ -45,8 +45,8 @@ pub(crate) fn visit_each<D: Dev>(
     requires room { (first.index + length blocks.now) * first.span ≤ 2 ^ 54 }
     requires met { limit_of met.old ≡ visitor.now.shape.count }
     requires placed { All (IsLeafOf visitor.now.shape.count last) leaves.old.items }
-    requires fits { Fits D.extent visitor.now.shape host.old }
-    ensures sees { (m : BlockMap) → Shows D.tells D.history visitor.now.shape host.new m
+    requires fits { Fits visitor.now.shape (D.outside host.old) }
+    ensures sees { (m : BlockMap) → Shows visitor.now.shape (D.outside host.new) m
         → Sees m visitor.now last
         (visits_beside m last first.level first.index blocks.now (length blocks.now))
         (strays_beside m last first.level first.index blocks.now (length blocks.now))
@@ -58,9 +58,9 @@ pub(crate) fn visit_each<D: Dev>(
     ensures placed { OnOk result (All (IsLeafOf visitor.now.shape.count last) leaves.new.items) }
     ensures end { IfOk result (λ part. IfSome part.end (λ block. block < visitor.now.shape.count)) }
     ensures limit { limit_of met.new ≡ limit_of met.old }
-    ensures fits { Fits D.extent visitor.now.shape host.new }
-    ensures reads { JustReads D.tells D.history D.attached D.con_faults host.old host.new }
-    ensures cause { IsCaused (D.dev_faults host.old) (D.dev_faults host.new) result }
+    ensures fits { Fits visitor.now.shape (D.outside host.new) }
+    ensures reads { JustReads (D.outside host.old) (D.outside host.new) }
+    ensures cause { IsCaused (D.outside host.old).dev_faults (D.outside host.new).dev_faults result }
 {
     let mut all = Part::nothing();
     for (place, block) in blocks.iter().enumerate() {
@@ -91,8 +91,8 @@ fn visit<D: Dev>(
     requires room { (position.index + 1) * position.span ≤ 2 ^ 54 }
     requires met { limit_of met.old ≡ visitor.now.shape.count }
     requires placed { All (IsLeafOf visitor.now.shape.count last) leaves.old.items }
-    requires fits { Fits D.extent visitor.now.shape host.old }
-    ensures sees { (m : BlockMap) → Shows D.tells D.history visitor.now.shape host.new m
+    requires fits { Fits visitor.now.shape (D.outside host.old) }
+    ensures sees { (m : BlockMap) → Shows visitor.now.shape (D.outside host.new) m
         → Sees m visitor.now last
         (visits_under m last position.level position.index block)
         (is_stray_under m last position.level position.index block)
@@ -104,9 +104,9 @@ fn visit<D: Dev>(
     ensures placed { OnOk result (All (IsLeafOf visitor.now.shape.count last) leaves.new.items) }
     ensures end { IfOk result (λ part. IfSome part.end (λ block. block < visitor.now.shape.count)) }
     ensures limit { limit_of met.new ≡ limit_of met.old }
-    ensures fits { Fits D.extent visitor.now.shape host.new }
-    ensures reads { JustReads D.tells D.history D.attached D.con_faults host.old host.new }
-    ensures cause { IsCaused (D.dev_faults host.old) (D.dev_faults host.new) result }
+    ensures fits { Fits visitor.now.shape (D.outside host.new) }
+    ensures reads { JustReads (D.outside host.old) (D.outside host.new) }
+    ensures cause { IsCaused (D.outside host.old).dev_faults (D.outside host.new).dev_faults result }
 {
     if block == ABSENT {
         return Ok(Part::nothing());

@@ -23,12 +23,12 @@ pub fn read_block<D: Dev>(
 ) -> Result<(), Failed>
     requires block { block < shape.count }
     requires long { length into.old ≡ shape.blocksize }
-    requires fits { Fits D.extent shape host.old }
-    ensures bytes { (m : BlockMap) → Shows D.tells D.history shape host.new m → OnOk result (into.new ≡ m.bytes block) }
+    requires fits { Fits shape (D.outside host.old) }
+    ensures bytes { (m : BlockMap) → Shows shape (D.outside host.new) m → OnOk result (into.new ≡ m.bytes block) }
     ensures long { length into.new ≡ length into.old }
-    ensures fits { Fits D.extent shape host.new }
-    ensures reads { JustReads D.tells D.history D.attached D.con_faults host.old host.new }
-    ensures cause { HasCause (D.dev_faults host.old) (D.dev_faults host.new) result }
+    ensures fits { Fits shape (D.outside host.new) }
+    ensures reads { JustReads (D.outside host.old) (D.outside host.new) }
+    ensures cause { HasCause (D.outside host.old).dev_faults (D.outside host.new).dev_faults result }
 {
     read_block_from(host, shape, block, 0, into)
 }
@@ -43,12 +43,12 @@ pub fn read_block_from<D: Dev>(
 ) -> Result<(), Failed>
     requires block { block < shape.count }
     requires long { from + length into.old ≡ shape.blocksize }
-    requires fits { Fits D.extent shape host.old }
-    ensures bytes { (m : BlockMap) → Shows D.tells D.history shape host.new m → OnOk result (into.new ≡ drop from (m.bytes block)) }
+    requires fits { Fits shape (D.outside host.old) }
+    ensures bytes { (m : BlockMap) → Shows shape (D.outside host.new) m → OnOk result (into.new ≡ drop from (m.bytes block)) }
     ensures long { length into.new ≡ length into.old }
-    ensures fits { Fits D.extent shape host.new }
-    ensures reads { JustReads D.tells D.history D.attached D.con_faults host.old host.new }
-    ensures cause { HasCause (D.dev_faults host.old) (D.dev_faults host.new) result }
+    ensures fits { Fits shape (D.outside host.new) }
+    ensures reads { JustReads (D.outside host.old) (D.outside host.new) }
+    ensures cause { HasCause (D.outside host.old).dev_faults (D.outside host.new).dev_faults result }
 {
     let at = place_of(shape, block) + from as u64;
     host.read_at(at, into)
@@ -63,12 +63,12 @@ pub fn read_blocks<D: Dev>(
 ) -> Result<(), Failed>
     requires whole { length into.old % shape.blocksize ≡ 0 }
     requires blocks { first + length into.old / shape.blocksize ≤ shape.count }
-    requires fits { Fits D.extent shape host.old }
-    ensures bytes { (m : BlockMap) → Shows D.tells D.history shape host.new m → OnOk result (HasBlocks m first into.new) }
+    requires fits { Fits shape (D.outside host.old) }
+    ensures bytes { (m : BlockMap) → Shows shape (D.outside host.new) m → OnOk result (HasBlocks m first into.new) }
     ensures long { length into.new ≡ length into.old }
-    ensures fits { Fits D.extent shape host.new }
-    ensures reads { JustReads D.tells D.history D.attached D.con_faults host.old host.new }
-    ensures cause { HasCause (D.dev_faults host.old) (D.dev_faults host.new) result }
+    ensures fits { Fits shape (D.outside host.new) }
+    ensures reads { JustReads (D.outside host.old) (D.outside host.new) }
+    ensures cause { HasCause (D.outside host.old).dev_faults (D.outside host.new).dev_faults result }
 {
     host.read_at(place_of(shape, first), into)
 }
@@ -89,13 +89,13 @@ pub(crate) fn read_pointers<D: Dev>(
 ) -> Result<(), Failed>
     requires block { block < shape.count }
     requires long { length into.old ≡ per_block shape.blocksize }
-    requires fits { Fits D.extent shape host.old }
-    ensures pointers { (m : BlockMap) → Shows D.tells D.history shape host.new m
+    requires fits { Fits shape (D.outside host.old) }
+    ensures pointers { (m : BlockMap) → Shows shape (D.outside host.new) m
         → OnOk result (into.new ≡ each_below (per_block shape.blocksize) (λ w. word m block w)) }
     ensures long { length into.new ≡ length into.old }
-    ensures fits { Fits D.extent shape host.new }
-    ensures reads { JustReads D.tells D.history D.attached D.con_faults host.old host.new }
-    ensures cause { HasCause (D.dev_faults host.old) (D.dev_faults host.new) result }
+    ensures fits { Fits shape (D.outside host.new) }
+    ensures reads { JustReads (D.outside host.old) (D.outside host.new) }
+    ensures cause { HasCause (D.outside host.old).dev_faults (D.outside host.new).dev_faults result }
 {
     let mut buffer = [0; 4096];
     let bytes = &mut buffer[0..shape.blocksize as usize];

@@ -19,14 +19,14 @@ fn read_area<D: Dev>(
     place: Option<u64>,
     into: &mut [u8],
 ) -> Result<(), Failed>
-    requires len { IfSome (D.extent host.old) (λ n. n ≡ len) }
+    requires len { IfSome (D.outside host.old).extent (λ n. n ≡ len) }
     requires into { length into.old ≡ 512 }
-    ensures bytes { OnOk result (IsTrue (D.tells host.new) → into.new ≡ buffer_of (option_and_then (λ at. area_at (bytes_of (D.history host.new)) at) place)) }
-    ensures step { Idles D.tells D.history host.old host.new }
-    ensures extent { StaysWhereTold (D.extent host.old) (D.extent host.new) }
-    ensures reads { ReadsAtMost D.dev_reads 1 host.old host.new }
-    ensures others { LeavesConsole D.attached D.con_faults host.old host.new }
-    ensures cause { HasCause (D.dev_faults host.old) (D.dev_faults host.new) result }
+    ensures bytes { OnOk result (IsTrue (D.outside host.new).tells → into.new ≡ buffer_of (option_and_then (λ at. area_at (bytes_of (D.outside host.new).history) at) place)) }
+    ensures step { Idles (D.outside host.old) (D.outside host.new) }
+    ensures extent { StaysWhereTold (D.outside host.old).extent (D.outside host.new).extent }
+    ensures reads { ReadsAtMost 1 (D.outside host.old) (D.outside host.new) }
+    ensures others { LeavesConsole (D.outside host.old) (D.outside host.new) }
+    ensures cause { HasCause (D.outside host.old).dev_faults (D.outside host.new).dev_faults result }
 {
     match place {
         Some(at) if len >= 512 && at <= len - 512 => host.read_at(at, into),
@@ -45,7 +45,7 @@ pub fn areas<D: Dev>(
     first: &mut [u8],
     second: &mut [u8],
 ) -> Result<Pick, Failed>
-    requires len { IfSome (D.extent host.old) (λ n. n ≡ len) }
+    requires len { IfSome (D.outside host.old).extent (λ n. n ≡ len) }
     requires first { length first.old ≡ 512 }
     requires second { length second.old ≡ 512 }
 
@@ -53,15 +53,15 @@ pub fn areas<D: Dev>(
     ensures pick { IfOk result (λ pick. pick ≡ pick_of (first_read first.new len) (second_read first.new second.new len)) }
 
     // Where the device tells, that is what its bytes decide.
-    ensures active { IfOk result (λ pick. IsTrue (D.tells host.new) → pick ≡ active_area (bytes_of (D.history host.new))) }
-    ensures first { OnOk result (IsTrue (D.tells host.new) → first.new ≡ buffer_of (first_area (bytes_of (D.history host.new)))) }
-    ensures second { OnOk result (IsTrue (D.tells host.new) → second.new ≡ buffer_of (second_area (bytes_of (D.history host.new)))) }
+    ensures active { IfOk result (λ pick. IsTrue (D.outside host.new).tells → pick ≡ active_area (bytes_of (D.outside host.new).history)) }
+    ensures first { OnOk result (IsTrue (D.outside host.new).tells → first.new ≡ buffer_of (first_area (bytes_of (D.outside host.new).history))) }
+    ensures second { OnOk result (IsTrue (D.outside host.new).tells → second.new ≡ buffer_of (second_area (bytes_of (D.outside host.new).history))) }
 
-    ensures step { Idles D.tells D.history host.old host.new }
-    ensures extent { StaysWhereTold (D.extent host.old) (D.extent host.new) }
-    ensures reads { ReadsAtMost D.dev_reads 2 host.old host.new }
-    ensures others { LeavesConsole D.attached D.con_faults host.old host.new }
-    ensures cause { HasCause (D.dev_faults host.old) (D.dev_faults host.new) result }
+    ensures step { Idles (D.outside host.old) (D.outside host.new) }
+    ensures extent { StaysWhereTold (D.outside host.old).extent (D.outside host.new).extent }
+    ensures reads { ReadsAtMost 2 (D.outside host.old) (D.outside host.new) }
+    ensures others { LeavesConsole (D.outside host.old) (D.outside host.new) }
+    ensures cause { HasCause (D.outside host.old).dev_faults (D.outside host.new).dev_faults result }
 {
     read_area(host, len, Some(FIRST_PLACE), first)?;
     let first_super = first_in(first, len);

@@ -72,13 +72,13 @@ impl LongNames {
     ) -> Result<Option<&'a [u8]>, Halt>
         requires inside { AreInside shape.count self.now }
         requires long { length buffer.old ≡ shape.blocksize }
-        requires fits { Fits D.extent shape host.old }
-        ensures name { (m : BlockMap) (longfile : node) (numbers : List ℕ) → Shows D.tells D.history shape host.new m → HoldsNames m longfile numbers self.now
+        requires fits { Fits shape (D.outside host.old) }
+        ensures name { (m : BlockMap) (longfile : node) (numbers : List ℕ) → Shows shape (D.outside host.new) m → HoldsNames m longfile numbers self.now
             → IfOk result (λ name. option_copied name ≡ long_name m longfile number) }
-        ensures fits { Fits D.extent shape host.new }
-        ensures reads { JustReads D.tells D.history D.attached D.con_faults host.old host.new }
+        ensures fits { Fits shape (D.outside host.new) }
+        ensures reads { JustReads (D.outside host.old) (D.outside host.new) }
         ensures device { OnErr result (result ≡ Err halts.Device) }
-        ensures cause { IsCaused (D.dev_faults host.old) (D.dev_faults host.new) result }
+        ensures cause { IsCaused (D.outside host.old).dev_faults (D.outside host.new).dev_faults result }
     {
         let Some(place) = self.place(number) else {
             return Ok(None);

@@ -45,12 +45,12 @@ impl InodeTable {
     ) -> Result<InodeTable, Halt>
         requires placed { All (IsPlaced shape inodes.now) leaves.now }
         requires bounded { inodes.now.size ≤ shape.count * shape.blocksize }
-        requires fits { Fits D.extent shape host.old }
-        ensures holds { (m : BlockMap) → Shows D.tells D.history shape host.new m → AreLeaves m inodes.now leaves.now → IfOk result (HoldsInodes m inodes.now) }
+        requires fits { Fits shape (D.outside host.old) }
+        ensures holds { (m : BlockMap) → Shows shape (D.outside host.new) m → AreLeaves m inodes.now leaves.now → IfOk result (HoldsInodes m inodes.now) }
         ensures places { IfOk result (λ table. places_of table ≡ places_in inodes.now) }
-        ensures fits { Fits D.extent shape host.new }
-        ensures reads { JustReads D.tells D.history D.attached D.con_faults host.old host.new }
-        ensures cause { IsCaused (D.dev_faults host.old) (D.dev_faults host.new) result }
+        ensures fits { Fits shape (D.outside host.new) }
+        ensures reads { JustReads (D.outside host.old) (D.outside host.new) }
+        ensures cause { IsCaused (D.outside host.old).dev_faults (D.outside host.new).dev_faults result }
 
         // An Err is no finding.
         ensures halts { (f : Option Finding) → IfErr result (HaltsAt f) }
@@ -132,14 +132,14 @@ impl InodeTable {
     ) -> Result<(), Failed>
         requires blocks { first.block + count ≤ shape.count }
         requires inside { first.index * shape.blocksize + count * shape.blocksize ≤ length bytes.old }
-        requires fits { Fits D.extent shape host.old }
-        ensures leaves { (m : BlockMap) → Shows D.tells D.history shape host.new m
+        requires fits { Fits shape (D.outside host.old) }
+        ensures leaves { (m : BlockMap) → Shows shape (D.outside host.new) m
             → OnOk result ((k : ℕ) → k < count → leaf_range shape.blocksize bytes.new (first.index + k) ≡ m.bytes (first.block + k)) }
         ensures others { (i : ℕ) → IsApart first.index count i → leaf_range shape.blocksize bytes.new i ≡ leaf_range shape.blocksize bytes.old i }
         ensures long { length bytes.new ≡ length bytes.old }
-        ensures fits { Fits D.extent shape host.new }
-        ensures reads { JustReads D.tells D.history D.attached D.con_faults host.old host.new }
-        ensures cause { HasCause (D.dev_faults host.old) (D.dev_faults host.new) result }
+        ensures fits { Fits shape (D.outside host.new) }
+        ensures reads { JustReads (D.outside host.old) (D.outside host.new) }
+        ensures cause { HasCause (D.outside host.old).dev_faults (D.outside host.new).dev_faults result }
     {
         let size = shape.blocksize as usize;
         let at = first.index as usize * size;

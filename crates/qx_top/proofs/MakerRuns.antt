@@ -1,11 +1,12 @@
 -- The maker's run, put together from its calls: the clock, the attach, the maker, and what is said at the end.
-use Rattle.std.proofs.Common.{◌≡◌, ◌≢◌, ◌⊎◌, inl, inr, Bool, ℕ, List, ◌∷◌, ◌++◌, take, Option, refl, sym, ap, ◌∙◌, subst, append-nil, arith}
+use Rattle.std.proofs.Common.{◌≡◌, ◌≢◌, ◌⊎◌, inl, inr, ℕ, List, ◌∷◌, ◌++◌, take, Option, refl, sym, ap, ◌∙◌, subst, append-nil, arith}
 use Rattle.std.specs.Prelude.{IsTrue, Result, Ok, Err}
 use Rattle.std.proofs.lemmas.Bool.{cases_eq}
 use Rattle.qx_outside.specs.declared.event.Attachment.{Attachment}
 use Rattle.qx_outside.specs.Calls.{Did, Idles}
 use Rattle.qx_outside.specs.Causes.{Becomes, Rose}
 use Rattle.qx_outside.specs.Moments.{HoldsThroughout}
+use Rattle.qx_outside.specs.Outside.{Outside}
 use Rattle.qx_outside.specs.Trail.{History, gave, told_moment, after, bytes_of, input, lengths_asked, output}
 use Rattle.qx_outside.proofs.Cuts.{image_settled}
 use Rattle.qx_outside.proofs.Throughout.{throughout_first, throughout_here, throughout_last, throughout_more, throughout_then}
@@ -118,69 +119,69 @@ spoke_made o g old a b (inr said) m =
 -- ---- the run
 
 -- what is known before the last line is given
-pub record IsUnderway {H : Type 0} (tells : H → Bool) (history : H → History) (attached : H → Option (List Attachment)) (image : List ℕ) (size moment : ℕ) (old new : H) : Type 0 where
-  pub before : IsTrue (tells new) → IsTrue (tells old)
-  pub paths : Becomes (attached old) (attached new) (λ before now. now ≡ created image ∷ before)
-  pub clock : IsTrue (tells new) → moments_told (history new).deeds ≡ moment ∷ moments_told (history old).deeds
-  pub taken : IsTrue (tells new) → input (history new) ≡ input (history old)
-  pub silent : IsTrue (tells new) → output (history new) ≡ output (history old)
-  pub any_moment : IsTrue (tells new) → IsReadyToMake (history old)
-      → HoldsThroughout (LeavesByMaker (bytes_of (history old)) size (tree_for (options_of size moment))) (history old) (history new)
-  pub lengths : IsTrue (tells new) → AsksOneLength size (history old) (history new)
+pub record IsUnderway (image : List ℕ) (size moment : ℕ) (old new : Outside) : Type 0 where
+  pub before : IsTrue new.tells → IsTrue old.tells
+  pub paths : Becomes old.attached new.attached (λ before now. now ≡ created image ∷ before)
+  pub clock : IsTrue new.tells → moments_told new.history.deeds ≡ moment ∷ moments_told old.history.deeds
+  pub taken : IsTrue new.tells → input new.history ≡ input old.history
+  pub silent : IsTrue new.tells → output new.history ≡ output old.history
+  pub any_moment : IsTrue new.tells → IsReadyToMake old.history
+      → HoldsThroughout (LeavesByMaker (bytes_of old.history) size (tree_for (options_of size moment))) old.history new.history
+  pub lengths : IsTrue new.tells → AsksOneLength size old.history new.history
 
-module _ {H : Type 0} (tells : H → Bool) (history : H → History) (attached : H → Option (List Attachment)) (image : List ℕ) (size moment : ℕ) where
+module _ (image : List ℕ) (size moment : ℕ) where
   -- the clock told a moment, and the image was asked to be attached
-  module _ (a b c : H) (asked_clock : Did tells history (told_moment moment) a b) (same : attached b ≡ attached a) (idle : Idles tells history b c)
-      (attach : Becomes (attached b) (attached c) (λ before now. now ≡ created image ∷ before)) where
-    pub begun : IsTrue (tells c) → history c ≡ after (told_moment moment) (history a)
+  module _ (a b c : Outside) (asked_clock : Did (told_moment moment) a b) (same : b.attached ≡ a.attached) (idle : Idles b c)
+      (attach : Becomes b.attached c.attached (λ before now. now ≡ created image ∷ before)) where
+    pub begun : IsTrue c.tells → c.history ≡ after (told_moment moment) a.history
     begun t = idle.step t ∙ asked_clock.step (idle.before t)
 
-    became : Becomes (attached a) (attached c) (λ before now. now ≡ created image ∷ before)
-    became = subst (λ (before : Option (List Attachment)). Becomes before (attached c) (λ before now. now ≡ created image ∷ before)) same attach
+    became : Becomes a.attached c.attached (λ before now. now ≡ created image ∷ before)
+    became = subst (λ (before : Option (List Attachment)). Becomes before c.attached (λ before now. now ≡ created image ∷ before)) same attach
 
-    pub attached_first : IsUnderway tells history attached image size moment a c
+    pub attached_first : IsUnderway image size moment a c
     attached_first = record {
       before = λ t. asked_clock.before (idle.before t);
       paths = became;
       clock = λ t. ap (λ (h : History). moments_told h.deeds) (begun t);
-      taken = λ t. ap input (begun t) ∙ append-nil (input (history a));
-      silent = λ t. ap output (begun t) ∙ append-nil (output (history a));
+      taken = λ t. ap input (begun t) ∙ append-nil (input a.history);
+      silent = λ t. ap output (begun t) ∙ append-nil (output a.history);
       any_moment = λ t ready.
           let o = options_of size moment in
-          let P : History → Type 0 = LeavesByMaker (bytes_of (history a)) size (tree_for o) in
-          subst (λ (h : History). HoldsThroughout P (history a) h) (sym (begun t))
-          (from_clock (bytes_of (history a)) o moment (history a) (after (told_moment moment) (history a)) (throughout_here P (after (told_moment moment) (history a)) (left_at_rest o (after (told_moment moment) (history a)) (ready_later moment (history a) ready))));
+          let P : History → Type 0 = LeavesByMaker (bytes_of a.history) size (tree_for o) in
+          subst (λ (h : History). HoldsThroughout P a.history h) (sym (begun t))
+          (from_clock (bytes_of a.history) o moment a.history (after (told_moment moment) a.history) (throughout_here P (after (told_moment moment) a.history) (left_at_rest o (after (told_moment moment) a.history) (ready_later moment a.history ready))));
       lengths = λ t. inl (ap (λ (h : History). lengths_asked h.deeds) (begun t));
     }
 
     -- and the maker was called
-    pub made_next : (o : MakeOptions) (d : H) → o ≡ options_of size moment → attached d ≡ attached c → MakesAtEachMoment tells history o c d
-        → (IsTrue (tells d) → AsksOneLength o.size (history c) (history d)) → (IsTrue (tells d) → KeepsQuiet (history c) (history d))
-        → IsUnderway tells history attached image size moment a d
+    pub made_next : (o : MakeOptions) (d : Outside) → o ≡ options_of size moment → d.attached ≡ c.attached → MakesAtEachMoment o c d
+        → (IsTrue d.tells → AsksOneLength o.size c.history d.history) → (IsTrue d.tells → KeepsQuiet c.history d.history)
+        → IsUnderway image size moment a d
     made_next o d is there at_each lengths quiet = record {
       before = λ t. attached_first.before (at_each.before t);
-      paths = subst (λ (now : Option (List Attachment)). Becomes (attached a) now (λ before now. now ≡ created image ∷ before)) (sym there) became;
+      paths = subst (λ (now : Option (List Attachment)). Becomes a.attached now (λ before now. now ≡ created image ∷ before)) (sym there) became;
       clock = λ t. (quiet t).moments ∙ attached_first.clock (at_each.before t);
       taken = λ t. (quiet t).taken ∙ attached_first.taken (at_each.before t);
       silent = λ t. (quiet t).given ∙ attached_first.silent (at_each.before t);
       any_moment = λ t ready.
           let e = begun (at_each.before t) in
-          let ready_then : IsReadyToMake (history c) = subst IsReadyToMake (sym e) (ready_later moment (history a) ready) in
-          subst (λ (o : MakeOptions). HoldsThroughout (LeavesByMaker (bytes_of (history a)) o.size (tree_for o)) (history a) (history d)) is
-          (from_clock (bytes_of (history a)) o moment (history a) (history d)
-          (subst (λ (h : History). HoldsThroughout (LeavesByMaker (bytes_of h) o.size (tree_for o)) h (history d)) e (at_each.step t ready_then)));
-      lengths = λ t. subst (λ (o : MakeOptions). AsksOneLength o.size (history a) (history d)) is (subst (λ (h : History). AsksOneLength o.size h (history d)) (begun (at_each.before t)) (lengths t));
+          let ready_then : IsReadyToMake c.history = subst IsReadyToMake (sym e) (ready_later moment a.history ready) in
+          subst (λ (o : MakeOptions). HoldsThroughout (LeavesByMaker (bytes_of a.history) o.size (tree_for o)) a.history d.history) is
+          (from_clock (bytes_of a.history) o moment a.history d.history
+          (subst (λ (h : History). HoldsThroughout (LeavesByMaker (bytes_of h) o.size (tree_for o)) h d.history) e (at_each.step t ready_then)));
+      lengths = λ t. subst (λ (o : MakeOptions). AsksOneLength o.size a.history d.history) is (subst (λ (h : History). AsksOneLength o.size h d.history) (begun (at_each.before t)) (lengths t));
     }
 
     -- the volume, in terms of the bytes at the start
-    pub made_of_start : (o : MakeOptions) (g : Geometry) (d : H) → o ≡ options_of size moment → (IsTrue (tells d) → IsTrue (tells c)) → (IsTrue (tells d) → HasMade o g (bytes_of (history c)) (history d))
-        → IsTrue (tells d) → HasMade (options_of size moment) g (bytes_of (history a)) (history d)
+    pub made_of_start : (o : MakeOptions) (g : Geometry) (d : Outside) → o ≡ options_of size moment → (IsTrue d.tells → IsTrue c.tells) → (IsTrue d.tells → HasMade o g (bytes_of c.history) d.history)
+        → IsTrue d.tells → HasMade (options_of size moment) g (bytes_of a.history) d.history
     made_of_start o g d is before made t =
-        subst (λ (h : History). HasMade (options_of size moment) g (bytes_of h) (history d)) (begun (before t)) (subst (λ (o : MakeOptions). HasMade o g (bytes_of (history c)) (history d)) is (made t))
+        subst (λ (h : History). HasMade (options_of size moment) g (bytes_of h) d.history) (begun (before t)) (subst (λ (o : MakeOptions). HasMade o g (bytes_of c.history) d.history) is (made t))
 
   -- the last line
-  module _ (dev_faults : H → ℕ) (g : Geometry) (status : ℕ) (a d e : H) (under : IsUnderway tells history attached image size moment a d) (same : attached e ≡ attached d) where
-    spoke : (text : List ℕ) (owed : ℕ) → Says tells history text owed status d e → IsTrue (tells e) → Spoke (history d) (history e)
+  module _ (g : Geometry) (status : ℕ) (a d e : Outside) (under : IsUnderway image size moment a d) (same : e.attached ≡ d.attached) where
+    spoke : (text : List ℕ) (owed : ℕ) → Says text owed status d e → IsTrue e.tells → Spoke d.history e.history
     spoke text owed s t = elim (cases_eq status 4) [
       | inl failed ↦ elim (s.cut failed t) [
         | inl same ↦ inl same
@@ -189,38 +190,38 @@ module _ {H : Type 0} (tells : H → Bool) (history : H → History) (attached :
       | inr not_so ↦ inr (text, s.whole not_so t)
     ]
 
-    whole_text : (text : List ℕ) (owed : ℕ) → Says tells history text owed status d e → status ≢ 4 → IsTrue (tells e) → output (history e) ≡ output (history a) ++ text
+    whole_text : (text : List ℕ) (owed : ℕ) → Says text owed status d e → status ≢ 4 → IsTrue e.tells → output e.history ≡ output a.history ++ text
     whole_text text owed s not_so t = ap output (s.whole not_so t) ∙ ap (λ (l : List ℕ). l ++ text) (under.silent (s.before t))
 
-    part_of_text : (text : List ℕ) (owed : ℕ) → Says tells history text owed status d e → status ≡ 4 → IsTrue (tells e) → AddsPartOf text (history a) (history e)
+    part_of_text : (text : List ℕ) (owed : ℕ) → Says text owed status d e → status ≡ 4 → IsTrue e.tells → AddsPartOf text a.history e.history
     part_of_text text owed s failed t = elim (s.cut failed t) [
       | inl same ↦ (0, omega arith, ap output same ∙ under.silent (s.before t) ∙ sym (append-nil _))
       | inr part ↦ (part.0, part.1, ap output part.2 ∙ ap (λ (l : List ℕ). l ++ take part.0 text) (under.silent (s.before t)))
     ]
 
-    ended : (text : List ℕ) (owed : ℕ) → Says tells history text owed status d e → (status ≡ owed) ⊎ (status ≡ 4)
+    ended : (text : List ℕ) (owed : ℕ) → Says text owed status d e → (status ≡ owed) ⊎ (status ≡ 4)
     ended text owed s = elim (cases_eq status 4) [ inl failed ↦ inr failed | inr not_so ↦ inl (s.owes not_so) ]
 
-    paths_end : Becomes (attached a) (attached e) (λ before now. now ≡ created image ∷ before)
-    paths_end = subst (λ (now : Option (List Attachment)). Becomes (attached a) now (λ before now. now ≡ created image ∷ before)) (sym same) under.paths
+    paths_end : Becomes a.attached e.attached (λ before now. now ≡ created image ∷ before)
+    paths_end = subst (λ (now : Option (List Attachment)). Becomes a.attached now (λ before now. now ≡ created image ∷ before)) (sym same) under.paths
 
-    clock_end : (text : List ℕ) (owed : ℕ) → Says tells history text owed status d e → IsTrue (tells e) → moments_told (history e).deeds ≡ moment ∷ moments_told (history a).deeds
-    clock_end text owed s t = spoke_moments (history d) (history e) (spoke text owed s t) ∙ under.clock (s.before t)
+    clock_end : (text : List ℕ) (owed : ℕ) → Says text owed status d e → IsTrue e.tells → moments_told e.history.deeds ≡ moment ∷ moments_told a.history.deeds
+    clock_end text owed s t = spoke_moments d.history e.history (spoke text owed s t) ∙ under.clock (s.before t)
 
-    taken_end : (text : List ℕ) (owed : ℕ) → Says tells history text owed status d e → IsTrue (tells e) → input (history e) ≡ input (history a)
-    taken_end text owed s t = spoke_input (history d) (history e) (spoke text owed s t) ∙ under.taken (s.before t)
+    taken_end : (text : List ℕ) (owed : ℕ) → Says text owed status d e → IsTrue e.tells → input e.history ≡ input a.history
+    taken_end text owed s t = spoke_input d.history e.history (spoke text owed s t) ∙ under.taken (s.before t)
 
-    lengths_end : (text : List ℕ) (owed : ℕ) → Says tells history text owed status d e → IsTrue (tells e) → AsksOneLength size (history a) (history e)
+    lengths_end : (text : List ℕ) (owed : ℕ) → Says text owed status d e → IsTrue e.tells → AsksOneLength size a.history e.history
     lengths_end text owed s t =
-        let l = spoke_lengths (history d) (history e) (spoke text owed s t) in
+        let l = spoke_lengths d.history e.history (spoke text owed s t) in
         elim (under.lengths (s.before t)) [ inl none ↦ inl (l ∙ none) | inr one ↦ inr (l ∙ one) ]
 
-    left_end : (text : List ℕ) (owed : ℕ) → Says tells history text owed status d e → IsTrue (tells e) → IsReadyToMake (history a)
-        → HoldsThroughout (LeavesByMaker (bytes_of (history a)) size (tree_for (options_of size moment))) (history a) (history e)
-    left_end text owed s t ready = spoke_left (bytes_of (history a)) (options_of size moment) (history a) (history d) (history e) (spoke text owed s t) (under.any_moment (s.before t) ready)
+    left_end : (text : List ℕ) (owed : ℕ) → Says text owed status d e → IsTrue e.tells → IsReadyToMake a.history
+        → HoldsThroughout (LeavesByMaker (bytes_of a.history) size (tree_for (options_of size moment))) a.history e.history
+    left_end text owed s t ready = spoke_left (bytes_of a.history) (options_of size moment) a.history d.history e.history (spoke text owed s t) (under.any_moment (s.before t) ready)
 
     -- it says that a device call failed
-    pub says_fault : Says tells history device_fault 3 status d e → Rose (dev_faults a) (dev_faults e) → MakesAt tells history attached dev_faults image size g moment status a e
+    pub says_fault : Says device_fault 3 status d e → Rose a.dev_faults e.dev_faults → MakesAt image size g moment status a e
     says_fault s rose = record {
       before = λ t. under.before (s.before t);
       ends = inr (ended device_fault 3 s);
@@ -236,10 +237,10 @@ module _ {H : Type 0} (tells : H → Bool) (history : H → History) (attached :
     }
 
     -- it says that the volume was made
-    pub says_made : Says tells history (made_line (made_of g)) 0 status d e → (IsTrue (tells d) → HasMade (options_of size moment) g (bytes_of (history a)) (history d)) → MakesAt tells history attached dev_faults image size g moment status a e
+    pub says_made : Says (made_line (made_of g)) 0 status d e → (IsTrue d.tells → HasMade (options_of size moment) g (bytes_of a.history) d.history) → MakesAt image size g moment status a e
     says_made s made =
-        let stays : IsTrue (tells e) → HasMade (options_of size moment) g (bytes_of (history a)) (history e) = λ t.
-        spoke_made (options_of size moment) g (bytes_of (history a)) (history d) (history e) (spoke (made_line (made_of g)) 0 s t) (made (s.before t)) in
+        let stays : IsTrue e.tells → HasMade (options_of size moment) g (bytes_of a.history) e.history = λ t.
+        spoke_made (options_of size moment) g (bytes_of a.history) d.history e.history (spoke (made_line (made_of g)) 0 s t) (made (s.before t)) in
         record {
           before = λ t. under.before (s.before t);
           ends = elim (ended (made_line (made_of g)) 0 s) [ inl zero ↦ inl zero | inr four ↦ inr (inr four) ];

@@ -1,11 +1,12 @@
 -- What a run of the checker says, by its answer.
-use Rattle.std.proofs.Common.{◌≡◌, ◌≢◌, inl, inr, ℕ, Bool, IsTrue, List, Result, Ok, Err, arith, refl, sym, ap, subst, ◌∙◌}
+use Rattle.std.proofs.Common.{◌≡◌, ◌≢◌, inl, inr, ℕ, IsTrue, List, Result, Ok, Err, arith, refl, sym, ap, subst, ◌∙◌}
 use Rattle.qx_check.specs.declared.verdict.CheckFault.{CheckFault}
 use Rattle.qx_check.specs.declared.verdict.CheckFault.TheVariants as faults
 use Rattle.qx_check.specs.declared.verdict.Verdict.{Verdict as Answer}
 use Rattle.qx_check.specs.declared.verdict.Verdict.TheVariants as answers
 use Rattle.qx_check.specs.Verdicts.{IsVerdict, SaysVerdict}
 use Rattle.qx_outside.specs.Causes.{Rose}
+use Rattle.qx_outside.specs.Outside.{Outside}
 use Rattle.qx_outside.specs.Trail.{History, after, bytes_of, gave}
 use Rattle.qx_top.specs.Lines.{Report, check_report, device_fault, out_of_memory, report_of_answer, report_of_verdict, verdict_report}
 use Rattle.qx_top.specs.Run.{GivesPartOf, ReportsVerdict, Says, code_of}
@@ -17,32 +18,32 @@ report_of_verdict-is img (answers.Clean which serial free_blocks free_inodes) (s
 report_of_verdict-is img (answers.Foreign reason at) is = sym (ap verdict_report is)
 report_of_verdict-is img (answers.Damaged code inode block) is = sym (ap verdict_report is)
 
-module _ {H : Type 0} (tells : H → Bool) (history : H → History) (dev_faults : H → ℕ) (status : ℕ) (old mid new : H)
-    (before : IsTrue (tells mid) → IsTrue (tells old)) (same : IsTrue (tells mid) → history mid ≡ history old) where
+module _ (status : ℕ) (old mid new : Outside)
+    (before : IsTrue mid.tells → IsTrue old.tells) (same : IsTrue mid.tells → mid.history ≡ old.history) where
   -- a text that is said behind calls that do nothing is all that was done
-  whole_text : (text : List ℕ) (owed : ℕ) → Says tells history text owed status mid new → status ≢ 4 → IsTrue (tells new) → history new ≡ after (gave text) (history old)
+  whole_text : (text : List ℕ) (owed : ℕ) → Says text owed status mid new → status ≢ 4 → IsTrue new.tells → new.history ≡ after (gave text) old.history
   whole_text text owed s not_so t = s.whole not_so t ∙ ap (after (gave text)) (same (s.before t))
 
   -- so is a part of it
-  part_of_text : (text : List ℕ) (owed : ℕ) → Says tells history text owed status mid new → status ≡ 4 → IsTrue (tells new) → GivesPartOf text (history old) (history new)
-  part_of_text text owed s so t = subst (λ (h : History). GivesPartOf text h (history new)) (same (s.before t)) (s.cut so t)
+  part_of_text : (text : List ℕ) (owed : ℕ) → Says text owed status mid new → status ≡ 4 → IsTrue new.tells → GivesPartOf text old.history new.history
+  part_of_text text owed s so t = subst (λ (h : History). GivesPartOf text h new.history) (same (s.before t)) (s.cut so t)
 
   -- the report on the image, with its status
-  says_report : (report : Report) → (IsTrue (tells new) → report ≡ check_report (bytes_of (history old))) → code_of report.status ≢ 3 → code_of report.status ≢ 5
-      → Says tells history report.text (code_of report.status) status mid new → ReportsVerdict tells history dev_faults status old new
+  says_report : (report : Report) → (IsTrue new.tells → report ≡ check_report (bytes_of old.history)) → code_of report.status ≢ 3 → code_of report.status ≢ 5
+      → Says report.text (code_of report.status) status mid new → ReportsVerdict status old new
   says_report report is not_device not_memory s = record {
     before = λ t. before (s.before t);
     report = λ three four five t. (
-      whole_text report.text _ s four t ∙ ap (λ (r : Report). after (gave r.text) (history old)) (is t),
+      whole_text report.text _ s four t ∙ ap (λ (r : Report). after (gave r.text) old.history) (is t),
       s.owes four ∙ ap (λ (r : Report). code_of r.status) (is t),
     );
     fault = λ three t. absurd (not_device (sym (s.owes (omega (arith, three))) ∙ three));
     memory = λ five t. absurd (not_memory (sym (s.owes (omega (arith, five))) ∙ five));
-    cut = λ four t. inl (subst (λ (r : Report). GivesPartOf r.text (history old) (history new)) (is t) (part_of_text report.text _ s four t));
+    cut = λ four t. inl (subst (λ (r : Report). GivesPartOf r.text old.history new.history) (is t) (part_of_text report.text _ s four t));
   }
 
   -- a device call failed
-  pub says_fault : Rose (dev_faults old) (dev_faults new) → Says tells history device_fault 3 status mid new → ReportsVerdict tells history dev_faults status old new
+  pub says_fault : Rose old.dev_faults new.dev_faults → Says device_fault 3 status mid new → ReportsVerdict status old new
   says_fault rose s = record {
     before = λ t. before (s.before t);
     report = λ three four five t. absurd (three (s.owes four));
@@ -52,7 +53,7 @@ module _ {H : Type 0} (tells : H → Bool) (history : H → History) (dev_faults
   }
 
   -- there was no memory
-  says_memory : Says tells history out_of_memory 5 status mid new → ReportsVerdict tells history dev_faults status old new
+  says_memory : Says out_of_memory 5 status mid new → ReportsVerdict status old new
   says_memory s = record {
     before = λ t. before (s.before t);
     report = λ three four five t. absurd (five (s.owes four));
@@ -62,14 +63,14 @@ module _ {H : Type 0} (tells : H → Bool) (history : H → History) (dev_faults
   }
 
   -- whatever the checker answered
-  pub says_answer : (answer : Result Answer CheckFault) → (IsTrue (tells new) → SaysVerdict (bytes_of (history old)) answer) → (answer ≡ Err faults.Device → Rose (dev_faults old) (dev_faults new))
-      → Says tells history (report_of_answer answer).text (code_of (report_of_answer answer).status) status mid new → ReportsVerdict tells history dev_faults status old new
+  pub says_answer : (answer : Result Answer CheckFault) → (IsTrue new.tells → SaysVerdict (bytes_of old.history) answer) → (answer ≡ Err faults.Device → Rose old.dev_faults new.dev_faults)
+      → Says (report_of_answer answer).text (code_of (report_of_answer answer).status) status mid new → ReportsVerdict status old new
   unfolding check_report
   says_answer (Ok (answers.Clean which serial free_blocks free_inodes)) is device s =
-      says_report _ (λ t. report_of_verdict-is (bytes_of (history old)) (answers.Clean which serial free_blocks free_inodes) (is t)) (omega arith) (omega arith) s
-  says_answer (Ok (answers.Foreign reason at)) is device s = says_report _ (λ t. report_of_verdict-is (bytes_of (history old)) (answers.Foreign reason at) (is t)) (omega arith) (omega arith) s
+      says_report _ (λ t. report_of_verdict-is (bytes_of old.history) (answers.Clean which serial free_blocks free_inodes) (is t)) (omega arith) (omega arith) s
+  says_answer (Ok (answers.Foreign reason at)) is device s = says_report _ (λ t. report_of_verdict-is (bytes_of old.history) (answers.Foreign reason at) (is t)) (omega arith) (omega arith) s
   says_answer (Ok (answers.Damaged code inode block)) is device s =
-      says_report _ (λ t. report_of_verdict-is (bytes_of (history old)) (answers.Damaged code inode block) (is t)) (omega arith) (omega arith) s
+      says_report _ (λ t. report_of_verdict-is (bytes_of old.history) (answers.Damaged code inode block) (is t)) (omega arith) (omega arith) s
   says_answer (Err faults.NoVolume) is device s = says_report (report_of_answer (Err faults.NoVolume)) (λ t. sym (ap verdict_report (is t))) (omega arith) (omega arith) s
   says_answer (Err faults.Disagree) is device s = says_report (report_of_answer (Err faults.Disagree)) (λ t. sym (ap verdict_report (is t))) (omega arith) (omega arith) s
   says_answer (Err faults.Device) is device s = says_fault (device refl) s

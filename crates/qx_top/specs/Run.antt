@@ -1,7 +1,8 @@
 -- What a run does by its words.
-use Rattle.std.specs.Prelude.{ℕ, ◌≡◌, ◌≢◌, ◌≤◌, ◌⊎◌, Bool, IsTrue, List, [], ◌∷◌, String, string_bytes, map, codes, length, take, Err, Some}
+use Rattle.std.specs.Prelude.{ℕ, ◌≡◌, ◌≢◌, ◌≤◌, ◌⊎◌, IsTrue, List, [], ◌∷◌, String, string_bytes, map, codes, length, take, Err, Some}
 use Rattle.qx_geom.specs.declared.geometry.GeomFault.{GeomFault}
 use Rattle.qx_outside.specs.Causes.{Rose}
+use Rattle.qx_outside.specs.Outside.{Outside}
 use Rattle.qx_outside.specs.Trail.{History, gave, after, bytes_of}
 use Rattle.qx_top.specs.declared.status.Status.{Status}
 use Rattle.qx_top.specs.declared.status.Status.TheVariants.{Done, BadWords, BadImage, DeviceFault, ConsoleFault, NoMemory}
@@ -59,28 +60,28 @@ abbrev pub GivesPartOf : List ℕ → History → History → Type 0
 GivesPartOf text old new = (new ≡ old) ⊎ ((n : ℕ) × (n ≤ length text) × (new ≡ after (gave (take n text)) old))
 
 -- the run gives this text and nothing else, whole with the status that is owed, or in part with status 4
-pub record Says {H : Type 0} (tells : H → Bool) (history : H → History) (text : List ℕ) (owed status : ℕ) (old new : H) : Type 0 where
-  pub before : IsTrue (tells new) → IsTrue (tells old)
+pub record Says (text : List ℕ) (owed status : ℕ) (old new : Outside) : Type 0 where
+  pub before : IsTrue new.tells → IsTrue old.tells
   pub owes : status ≢ 4 → status ≡ owed
-  pub whole : status ≢ 4 → IsTrue (tells new) → history new ≡ after (gave text) (history old)
-  pub cut : status ≡ 4 → IsTrue (tells new) → GivesPartOf text (history old) (history new)
+  pub whole : status ≢ 4 → IsTrue new.tells → new.history ≡ after (gave text) old.history
+  pub cut : status ≡ 4 → IsTrue new.tells → GivesPartOf text old.history new.history
 
 -- the run gives the report on the superblocks of the device's bytes and nothing else, or at status 3 that a device call failed
-pub record ReportsSupers {H : Type 0} (tells : H → Bool) (history : H → History) (dev_faults : H → ℕ) (status : ℕ) (old new : H) : Type 0 where
-  pub before : IsTrue (tells new) → IsTrue (tells old)
-  pub report : status ≢ 3 → status ≢ 4 → IsTrue (tells new)
-      → (history new ≡ after (gave (supers_report (bytes_of (history old))).text) (history old)) × (status ≡ code_of (supers_report (bytes_of (history old))).status)
-  pub fault : status ≡ 3 → IsTrue (tells new) → history new ≡ after (gave device_fault) (history old)
-  pub cut : status ≡ 4 → IsTrue (tells new)
-      → GivesPartOf (supers_report (bytes_of (history old))).text (history old) (history new) ⊎ (Rose (dev_faults old) (dev_faults new) × GivesPartOf device_fault (history old) (history new))
+pub record ReportsSupers (status : ℕ) (old new : Outside) : Type 0 where
+  pub before : IsTrue new.tells → IsTrue old.tells
+  pub report : status ≢ 3 → status ≢ 4 → IsTrue new.tells
+      → (new.history ≡ after (gave (supers_report (bytes_of old.history)).text) old.history) × (status ≡ code_of (supers_report (bytes_of old.history)).status)
+  pub fault : status ≡ 3 → IsTrue new.tells → new.history ≡ after (gave device_fault) old.history
+  pub cut : status ≡ 4 → IsTrue new.tells
+      → GivesPartOf (supers_report (bytes_of old.history)).text old.history new.history ⊎ (Rose old.dev_faults new.dev_faults × GivesPartOf device_fault old.history new.history)
 
 -- the run gives the report on the verdict on the device's bytes and nothing else, or at status 3 that a device call failed, or at 5 that there was no memory
-pub record ReportsVerdict {H : Type 0} (tells : H → Bool) (history : H → History) (dev_faults : H → ℕ) (status : ℕ) (old new : H) : Type 0 where
-  pub before : IsTrue (tells new) → IsTrue (tells old)
-  pub report : status ≢ 3 → status ≢ 4 → status ≢ 5 → IsTrue (tells new)
-      → (history new ≡ after (gave (check_report (bytes_of (history old))).text) (history old)) × (status ≡ code_of (check_report (bytes_of (history old))).status)
-  pub fault : status ≡ 3 → IsTrue (tells new) → history new ≡ after (gave device_fault) (history old)
-  pub memory : status ≡ 5 → IsTrue (tells new) → history new ≡ after (gave out_of_memory) (history old)
-  pub cut : status ≡ 4 → IsTrue (tells new)
-      → GivesPartOf (check_report (bytes_of (history old))).text (history old) (history new)
-      ⊎ ((Rose (dev_faults old) (dev_faults new) × GivesPartOf device_fault (history old) (history new)) ⊎ GivesPartOf out_of_memory (history old) (history new))
+pub record ReportsVerdict (status : ℕ) (old new : Outside) : Type 0 where
+  pub before : IsTrue new.tells → IsTrue old.tells
+  pub report : status ≢ 3 → status ≢ 4 → status ≢ 5 → IsTrue new.tells
+      → (new.history ≡ after (gave (check_report (bytes_of old.history)).text) old.history) × (status ≡ code_of (check_report (bytes_of old.history)).status)
+  pub fault : status ≡ 3 → IsTrue new.tells → new.history ≡ after (gave device_fault) old.history
+  pub memory : status ≡ 5 → IsTrue new.tells → new.history ≡ after (gave out_of_memory) old.history
+  pub cut : status ≡ 4 → IsTrue new.tells
+      → GivesPartOf (check_report (bytes_of old.history)).text old.history new.history
+      ⊎ ((Rose old.dev_faults new.dev_faults × GivesPartOf device_fault old.history new.history) ⊎ GivesPartOf out_of_memory old.history new.history)

@@ -50,14 +50,14 @@ fn report_on_answer(answer: Result<Verdict, CheckFault>) -> Report
 
 /// Attaches the image, and gives the line about the checker's verdict on it.
 pub fn report_verdict<H: Host>(alloc: Global, host: &mut H, image: &str) -> Status
-    ensures report { ReportsVerdict H.tells H.history H.dev_faults (code_of result) host.old host.new }
-    ensures attached { Becomes (H.attached host.old) (H.attached host.new) (λ old new. new ≡ record { path = image.now; create = false } ∷ old) }
+    ensures report { ReportsVerdict (code_of result) (H.outside host.old) (H.outside host.new) }
+    ensures attached { Becomes (H.outside host.old).attached (H.outside host.new).attached (λ old new. new ≡ record { path = image.now; create = false } ∷ old) }
     ensures not_of_words { code_of result ≢ 1 }
     ensures exits { code_of result < 6 }
-    ensures device { code_of result ≡ 3 → Rose (H.dev_faults host.old) (H.dev_faults host.new) }
-    ensures console { code_of result ≡ 4 → Rose (H.con_faults host.old) (H.con_faults host.new) }
-    ensures kept { code_of result ≢ 3 → code_of result ≢ 4 → H.dev_faults host.new ≡ H.dev_faults host.old }
-    ensures console_kept { code_of result ≢ 4 → H.con_faults host.new ≡ H.con_faults host.old }
+    ensures device { code_of result ≡ 3 → Rose (H.outside host.old).dev_faults (H.outside host.new).dev_faults }
+    ensures console { code_of result ≡ 4 → Rose (H.outside host.old).con_faults (H.outside host.new).con_faults }
+    ensures kept { code_of result ≢ 3 → code_of result ≢ 4 → (H.outside host.new).dev_faults ≡ (H.outside host.old).dev_faults }
+    ensures console_kept { code_of result ≢ 4 → (H.outside host.new).con_faults ≡ (H.outside host.old).con_faults }
 {
     if host.attach(image, false).is_err() {
         return say(host, DEVICE_FAULT, Status::DeviceFault);

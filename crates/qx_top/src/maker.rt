@@ -37,11 +37,11 @@ fn options(size: u64, moment: u32) -> MakeOptions
 
 /// Asks the clock, attaches the image, and makes the volume on it.
 fn make_on<H: Host>(host: &mut H, image: &str, size: u64) -> Status
-    ensures makes { (g : Geometry) → volume_of size ≡ Ok g → MakesVolume H.tells H.history H.extent H.attached H.dev_reads H.dev_faults image.now size g (code_of result) host.old host.new }
-    ensures device { (g : Geometry) → volume_of size ≡ Ok g → code_of result ≡ 3 → Rose (H.dev_faults host.old) (H.dev_faults host.new) }
-    ensures console { code_of result ≡ 4 → Rose (H.con_faults host.old) (H.con_faults host.new) }
-    ensures kept { code_of result ≢ 3 → code_of result ≢ 4 → H.dev_faults host.new ≡ H.dev_faults host.old }
-    ensures console_kept { code_of result ≢ 4 → H.con_faults host.new ≡ H.con_faults host.old }
+    ensures makes { (g : Geometry) → volume_of size ≡ Ok g → MakesVolume image.now size g (code_of result) (H.outside host.old) (H.outside host.new) }
+    ensures device { (g : Geometry) → volume_of size ≡ Ok g → code_of result ≡ 3 → Rose (H.outside host.old).dev_faults (H.outside host.new).dev_faults }
+    ensures console { code_of result ≡ 4 → Rose (H.outside host.old).con_faults (H.outside host.new).con_faults }
+    ensures kept { code_of result ≢ 3 → code_of result ≢ 4 → (H.outside host.new).dev_faults ≡ (H.outside host.old).dev_faults }
+    ensures console_kept { code_of result ≢ 4 → (H.outside host.new).con_faults ≡ (H.outside host.old).con_faults }
 {
     let Ok(moment) = host.now() else {
         return Status::ConsoleFault;
@@ -58,15 +58,15 @@ fn make_on<H: Host>(host: &mut H, image: &str, size: u64) -> Status
 
 /// Makes a volume of so many bytes on the image, or says why there is none.
 pub fn make_volume<H: Host>(host: &mut H, image: &str, size: u64) -> Status
-    ensures refused { (fault : GeomFault) → volume_of size ≡ Err fault → Says H.tells H.history (fault_line fault) 1 (code_of result) host.old host.new }
-    ensures others { (fault : GeomFault) → volume_of size ≡ Err fault → LeavesDevice H.extent H.attached H.dev_reads H.dev_faults host.old host.new }
-    ensures makes { (g : Geometry) → volume_of size ≡ Ok g → MakesVolume H.tells H.history H.extent H.attached H.dev_reads H.dev_faults image.now size g (code_of result) host.old host.new }
+    ensures refused { (fault : GeomFault) → volume_of size ≡ Err fault → Says (fault_line fault) 1 (code_of result) (H.outside host.old) (H.outside host.new) }
+    ensures others { (fault : GeomFault) → volume_of size ≡ Err fault → LeavesDevice (H.outside host.old) (H.outside host.new) }
+    ensures makes { (g : Geometry) → volume_of size ≡ Ok g → MakesVolume image.now size g (code_of result) (H.outside host.old) (H.outside host.new) }
     ensures numbers { code_of result ≡ 1 → (fault : GeomFault) × (volume_of size ≡ Err fault) }
     ensures exits { code_of result < 5 }
-    ensures device { code_of result ≡ 3 → Rose (H.dev_faults host.old) (H.dev_faults host.new) }
-    ensures console { code_of result ≡ 4 → Rose (H.con_faults host.old) (H.con_faults host.new) }
-    ensures kept { code_of result ≢ 3 → code_of result ≢ 4 → H.dev_faults host.new ≡ H.dev_faults host.old }
-    ensures console_kept { code_of result ≢ 4 → H.con_faults host.new ≡ H.con_faults host.old }
+    ensures device { code_of result ≡ 3 → Rose (H.outside host.old).dev_faults (H.outside host.new).dev_faults }
+    ensures console { code_of result ≡ 4 → Rose (H.outside host.old).con_faults (H.outside host.new).con_faults }
+    ensures kept { code_of result ≢ 3 → code_of result ≢ 4 → (H.outside host.new).dev_faults ≡ (H.outside host.old).dev_faults }
+    ensures console_kept { code_of result ≢ 4 → (H.outside host.new).con_faults ≡ (H.outside host.old).con_faults }
 {
     match Geometry::new(size, BLOCKSIZE, inodes_for(size)) {
         Err(fault) => say(host, text_of_fault(fault), Status::BadWords),

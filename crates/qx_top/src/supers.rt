@@ -46,13 +46,13 @@ fn report_on_buffers(pick: Pick, first: &[u8], second: &[u8], len: u64) -> Repor
 
 /// The report on the superblocks of the device.
 fn report_on_device<D: Dev>(host: &mut D) -> Result<Report, Failed>
-    ensures line { IfOk result (λ report. IsTrue (D.tells host.new) → report.line.bytes ≡ (supers_report (bytes_of (D.history host.new))).text) }
-    ensures status { IfOk result (λ report. IsTrue (D.tells host.new) → report.status ≡ (supers_report (bytes_of (D.history host.new))).status) }
+    ensures line { IfOk result (λ report. IsTrue (D.outside host.new).tells → report.line.bytes ≡ (supers_report (bytes_of (D.outside host.new).history)).text) }
+    ensures status { IfOk result (λ report. IsTrue (D.outside host.new).tells → report.status ≡ (supers_report (bytes_of (D.outside host.new).history)).status) }
     ensures of_image { IfOk result (λ report. code_of report.status < 3) }
     ensures not_of_words { IfOk result (λ report. code_of report.status ≢ 1) }
-    ensures step { Idles D.tells D.history host.old host.new }
-    ensures others { LeavesConsole D.attached D.con_faults host.old host.new }
-    ensures cause { HasCause (D.dev_faults host.old) (D.dev_faults host.new) result }
+    ensures step { Idles (D.outside host.old) (D.outside host.new) }
+    ensures others { LeavesConsole (D.outside host.old) (D.outside host.new) }
+    ensures cause { HasCause (D.outside host.old).dev_faults (D.outside host.new).dev_faults result }
 {
     let len = host.len()?;
     let mut first = [0; 512];
@@ -63,14 +63,14 @@ fn report_on_device<D: Dev>(host: &mut D) -> Result<Report, Failed>
 
 /// Attaches the image, and gives the line about its superblocks.
 pub fn report_supers<H: Host>(host: &mut H, image: &str) -> Status
-    ensures report { ReportsSupers H.tells H.history H.dev_faults (code_of result) host.old host.new }
-    ensures attached { Becomes (H.attached host.old) (H.attached host.new) (λ old new. new ≡ record { path = image.now; create = false } ∷ old) }
+    ensures report { ReportsSupers (code_of result) (H.outside host.old) (H.outside host.new) }
+    ensures attached { Becomes (H.outside host.old).attached (H.outside host.new).attached (λ old new. new ≡ record { path = image.now; create = false } ∷ old) }
     ensures not_of_words { code_of result ≢ 1 }
     ensures exits { code_of result < 5 }
-    ensures device { code_of result ≡ 3 → Rose (H.dev_faults host.old) (H.dev_faults host.new) }
-    ensures console { code_of result ≡ 4 → Rose (H.con_faults host.old) (H.con_faults host.new) }
-    ensures kept { code_of result ≢ 3 → code_of result ≢ 4 → H.dev_faults host.new ≡ H.dev_faults host.old }
-    ensures console_kept { code_of result ≢ 4 → H.con_faults host.new ≡ H.con_faults host.old }
+    ensures device { code_of result ≡ 3 → Rose (H.outside host.old).dev_faults (H.outside host.new).dev_faults }
+    ensures console { code_of result ≡ 4 → Rose (H.outside host.old).con_faults (H.outside host.new).con_faults }
+    ensures kept { code_of result ≢ 3 → code_of result ≢ 4 → (H.outside host.new).dev_faults ≡ (H.outside host.old).dev_faults }
+    ensures console_kept { code_of result ≢ 4 → (H.outside host.new).con_faults ≡ (H.outside host.old).con_faults }
 {
     if host.attach(image, false).is_err() {
         return say(host, DEVICE_FAULT, Status::DeviceFault);

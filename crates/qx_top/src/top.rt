@@ -29,10 +29,10 @@ pub struct Ended<H> {
 /// Gives a text by one call, and answers the status that is owed, or that the console failed.
 pub fn say<H: Host>(host: &mut H, text: &str, owed: Status) -> Status
     requires { code_of owed ≢ 4 }
-    ensures says { Says H.tells H.history text.now (code_of owed) (code_of result) host.old host.new }
-    ensures others { LeavesDevice H.extent H.attached H.dev_reads H.dev_faults host.old host.new }
-    ensures console { code_of result ≡ 4 → Rose (H.con_faults host.old) (H.con_faults host.new) }
-    ensures console_kept { code_of result ≢ 4 → H.con_faults host.new ≡ H.con_faults host.old }
+    ensures says { Says text.now (code_of owed) (code_of result) (H.outside host.old) (H.outside host.new) }
+    ensures others { LeavesDevice (H.outside host.old) (H.outside host.new) }
+    ensures console { code_of result ≡ 4 → Rose (H.outside host.old).con_faults (H.outside host.new).con_faults }
+    ensures console_kept { code_of result ≢ 4 → (H.outside host.new).con_faults ≡ (H.outside host.old).con_faults }
 {
     match host.put(text.as_bytes()) {
         Ok(()) => owed,
@@ -80,19 +80,19 @@ fn volume_of_words<'a>(words: &'a [String]) -> Option<(&'a str, u64)>
 
 /// Does what the words say.
 fn obey<H: Host>(alloc: Global, words: &[String], host: &mut H) -> Status
-    ensures supers { (image : List ℕ) → AsksForSupers (texts_of words.now) image → ReportsSupers H.tells H.history H.dev_faults (code_of result) host.old host.new }
-    ensures verdict { (image : List ℕ) → AsksForVerdict (texts_of words.now) image → ReportsVerdict H.tells H.history H.dev_faults (code_of result) host.old host.new }
-    ensures attached { (image : List ℕ) → AsksToRead (texts_of words.now) image → Becomes (H.attached host.old) (H.attached host.new) (λ old new. new ≡ record { path = image; create = false } ∷ old) }
+    ensures supers { (image : List ℕ) → AsksForSupers (texts_of words.now) image → ReportsSupers (code_of result) (H.outside host.old) (H.outside host.new) }
+    ensures verdict { (image : List ℕ) → AsksForVerdict (texts_of words.now) image → ReportsVerdict (code_of result) (H.outside host.old) (H.outside host.new) }
+    ensures attached { (image : List ℕ) → AsksToRead (texts_of words.now) image → Becomes (H.outside host.old).attached (H.outside host.new).attached (λ old new. new ≡ record { path = image; create = false } ∷ old) }
     ensures makes { (image : List ℕ) (size : ℕ) (g : Geometry) → AsksForVolume (texts_of words.now) image size → volume_of size ≡ Ok g
-        → MakesVolume H.tells H.history H.extent H.attached H.dev_reads H.dev_faults image size g (code_of result) host.old host.new }
-    ensures refused { (line : List ℕ) → IsRefused (texts_of words.now) line → Says H.tells H.history line 1 (code_of result) host.old host.new }
-    ensures others { (line : List ℕ) → IsRefused (texts_of words.now) line → LeavesDevice H.extent H.attached H.dev_reads H.dev_faults host.old host.new }
+        → MakesVolume image size g (code_of result) (H.outside host.old) (H.outside host.new) }
+    ensures refused { (line : List ℕ) → IsRefused (texts_of words.now) line → Says line 1 (code_of result) (H.outside host.old) (H.outside host.new) }
+    ensures others { (line : List ℕ) → IsRefused (texts_of words.now) line → LeavesDevice (H.outside host.old) (H.outside host.new) }
     ensures exits { code_of result < 6 }
     ensures words { code_of result ≡ 1 → (line : List ℕ) × IsRefused (texts_of words.now) line }
-    ensures device { code_of result ≡ 3 → Rose (H.dev_faults host.old) (H.dev_faults host.new) }
-    ensures console { code_of result ≡ 4 → Rose (H.con_faults host.old) (H.con_faults host.new) }
-    ensures kept { code_of result ≢ 3 → code_of result ≢ 4 → H.dev_faults host.new ≡ H.dev_faults host.old }
-    ensures console_kept { code_of result ≢ 4 → H.con_faults host.new ≡ H.con_faults host.old }
+    ensures device { code_of result ≡ 3 → Rose (H.outside host.old).dev_faults (H.outside host.new).dev_faults }
+    ensures console { code_of result ≡ 4 → Rose (H.outside host.old).con_faults (H.outside host.new).con_faults }
+    ensures kept { code_of result ≢ 3 → code_of result ≢ 4 → (H.outside host.new).dev_faults ≡ (H.outside host.old).dev_faults }
+    ensures console_kept { code_of result ≢ 4 → (H.outside host.new).con_faults ≡ (H.outside host.old).con_faults }
     ensures memory { code_of result ≡ 5 → (image : List ℕ) × AsksForVerdict (texts_of words.now) image }
 {
     if let Some(image) = image_of_supers(words) {
@@ -111,35 +111,35 @@ fn obey<H: Host>(alloc: Global, words: &[String], host: &mut H) -> Status
 /// Accepted are `chkqnx6fs IMAGE`, `chkqnx6fs -s IMAGE` and `mkqnx6fs IMAGE SIZE`; all other words get the usage line. Words are UTF-8 texts without the program's own name.
 /// Exit status 0: done; an image that is checked is clean or foreign. 1: the words aren't accepted, or their numbers are those of no volume. 2: no volume, two areas that disagree, or a damaged image. 3: a device call failed. 4: a console or clock call failed. 5: there was no memory for the check.
 pub fn run<H: Host>(alloc: Global, words: &[String], host: H) -> Ended<H>
-    requires trail { IsTrue (H.tells host) → (H.history host).deeds ≡ [] }
-    requires attached { IfSome (H.attached host) (λ paths. paths ≡ []) }
+    requires trail { IsTrue (H.outside host).tells → (H.outside host).history.deeds ≡ [] }
+    requires attached { IfSome (H.outside host).attached (λ paths. paths ≡ []) }
 
     // The superblocks or the verdict are asked for: the image alone is attached, and is never made.
-    ensures supers { (image : List ℕ) → AsksForSupers (texts_of words.now) image → ReportsSupers H.tells H.history H.dev_faults result.status host result.host }
-    ensures verdict { (image : List ℕ) → AsksForVerdict (texts_of words.now) image → ReportsVerdict H.tells H.history H.dev_faults result.status host result.host }
-    ensures attached { (image : List ℕ) → AsksToRead (texts_of words.now) image → IfSome (H.attached result.host) (λ paths. paths ≡ record { path = image; create = false } ∷ []) }
+    ensures supers { (image : List ℕ) → AsksForSupers (texts_of words.now) image → ReportsSupers result.status (H.outside host) (H.outside result.host) }
+    ensures verdict { (image : List ℕ) → AsksForVerdict (texts_of words.now) image → ReportsVerdict result.status (H.outside host) (H.outside result.host) }
+    ensures attached { (image : List ℕ) → AsksToRead (texts_of words.now) image → IfSome (H.outside result.host).attached (λ paths. paths ≡ record { path = image; create = false } ∷ []) }
 
     // A volume is asked for: the image alone is attached, and is made where it is missing.
     ensures makes { (image : List ℕ) (size : ℕ) (g : Geometry) → AsksForVolume (texts_of words.now) image size → volume_of size ≡ Ok g
-        → MakesVolume H.tells H.history H.extent H.attached H.dev_reads H.dev_faults image size g result.status host result.host }
+        → MakesVolume image size g result.status (H.outside host) (H.outside result.host) }
     ensures created { (image : List ℕ) (size : ℕ) (g : Geometry) → AsksForVolume (texts_of words.now) image size → volume_of size ≡ Ok g
-        → IfSome (H.attached result.host) (HasCreated image result.status) }
+        → IfSome (H.outside result.host).attached (HasCreated image result.status) }
     ensures made { (image : List ℕ) (size : ℕ) (g : Geometry) → AsksForVolume (texts_of words.now) image size → volume_of size ≡ Ok g
-        → (Rose (H.dev_faults host) (H.dev_faults result.host) → ⊥) → (Rose (H.con_faults host) (H.con_faults result.host) → ⊥) → result.status ≡ 0 }
+        → (Rose (H.outside host).dev_faults (H.outside result.host).dev_faults → ⊥) → (Rose (H.outside host).con_faults (H.outside result.host).con_faults → ⊥) → result.status ≡ 0 }
 
     // All else is refused, and the line that says so is the only outside call.
-    ensures refused { (line : List ℕ) → IsRefused (texts_of words.now) line → Says H.tells H.history line 1 result.status host result.host }
-    ensures others { (line : List ℕ) → IsRefused (texts_of words.now) line → LeavesDevice H.extent H.attached H.dev_reads H.dev_faults host result.host }
+    ensures refused { (line : List ℕ) → IsRefused (texts_of words.now) line → Says line 1 result.status (H.outside host) (H.outside result.host) }
+    ensures others { (line : List ℕ) → IsRefused (texts_of words.now) line → LeavesDevice (H.outside host) (H.outside result.host) }
 
     // Each status has its cause. Memory is taken by the check alone.
     ensures exits { result.status < 6 }
     ensures words { result.status ≡ 1 → (line : List ℕ) × IsRefused (texts_of words.now) line }
-    ensures device { result.status ≡ 3 → Rose (H.dev_faults host) (H.dev_faults result.host) }
-    ensures console { result.status ≡ 4 → Rose (H.con_faults host) (H.con_faults result.host) }
-    ensures kept { result.status ≢ 3 → result.status ≢ 4 → H.dev_faults result.host ≡ H.dev_faults host }
-    ensures console_kept { result.status ≢ 4 → H.con_faults result.host ≡ H.con_faults host }
+    ensures device { result.status ≡ 3 → Rose (H.outside host).dev_faults (H.outside result.host).dev_faults }
+    ensures console { result.status ≡ 4 → Rose (H.outside host).con_faults (H.outside result.host).con_faults }
+    ensures kept { result.status ≢ 3 → result.status ≢ 4 → (H.outside result.host).dev_faults ≡ (H.outside host).dev_faults }
+    ensures console_kept { result.status ≢ 4 → (H.outside result.host).con_faults ≡ (H.outside host).con_faults }
     ensures memory { result.status ≡ 5 → (image : List ℕ) × AsksForVerdict (texts_of words.now) image }
-    ensures complete { (Rose (H.dev_faults host) (H.dev_faults result.host) → ⊥) → (Rose (H.con_faults host) (H.con_faults result.host) → ⊥) → (result.status < 3) ⊎ (result.status ≡ 5) }
+    ensures complete { (Rose (H.outside host).dev_faults (H.outside result.host).dev_faults → ⊥) → (Rose (H.outside host).con_faults (H.outside result.host).con_faults → ⊥) → (result.status < 3) ⊎ (result.status ≡ 5) }
 {
     let mut host = host;
     let status = obey(alloc, words, &mut host);

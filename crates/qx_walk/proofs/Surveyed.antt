@@ -1,13 +1,13 @@
 -- What is said of an image by the parts of a walk over a device that shows it.
 use Rattle.std.proofs.Common.{◌≡◌, ℕ, List, length, refl, sym, ◌∙◌, ap, arith}
-use Rattle.std.specs.Prelude.{Bool, IfSome, IsTrue, Option, Some, None, ◌-◌}
+use Rattle.std.specs.Prelude.{IfSome, IsTrue, Option, Some, None, ◌-◌}
 use Rattle.std.specs.Option.{option_map}
 use Rattle.qx_blockset.specs.Members.{count_of, limit_of}
 use Rattle.qx_geom.specs.declared.area.Which.{Which}
 use Rattle.qx_geom.specs.declared.geometry.Geometry.{Geometry}
 use Rattle.qx_nodes.specs.BlockMap.{BlockMap}
-use Rattle.qx_outside.specs.Trail.{History, bytes_of}
-use Rattle.qx_outside.specs.declared.event.Attachment.{Attachment}
+use Rattle.qx_outside.specs.Outside.{Outside}
+use Rattle.qx_outside.specs.Trail.{bytes_of}
 use Rattle.qx_pointers.specs.declared.halt.Halt.{Halt}
 use Rattle.qx_pointers.specs.declared.halt.Halt.TheVariants as halts
 use Rattle.qx_pointers.specs.declared.source.Shape.{Shape}
@@ -30,10 +30,10 @@ use Rattle.qx_walk.specs.Surveys.{IsFault, IsSurvey, fault_of, free_by, free_if,
 use Rattle.qx_walk.specs.Trees.{IsWalked}
 
 -- a device that still tells its bytes shows the blocks of the active superblock's volume
-pub shown_blocks : {D : Type 0} (tells : D → Bool) (history : D → History) (attached : D → Option (List Attachment)) (con_faults : D → ℕ) (shape : Shape) (s : Superblock) (img : List ℕ) (old new : D)
-    → IsShapeOf s shape → JustReads tells history attached con_faults old new → IsTrue (tells new) → bytes_of (history old) ≡ img → Shows tells history shape new (image_blocks img s)
-shown_blocks tells history attached con_faults shape s img old new is reads told bytes =
-    let same : bytes_of (history new) ≡ img = ap (λ h. bytes_of h) (reads.same told) ∙ bytes in
+pub shown_blocks : (shape : Shape) (s : Superblock) (img : List ℕ) (old new : Outside)
+    → IsShapeOf s shape → JustReads old new → IsTrue new.tells → bytes_of old.history ≡ img → Shows shape new (image_blocks img s)
+shown_blocks shape s img old new is reads told bytes =
+    let same : bytes_of new.history ≡ img = ap (λ h. bytes_of h) (reads.same told) ∙ bytes in
     record {
       told = told;
       is = λ i. record { order = sym is.order i; size = sym is.blocksize i; count = sym is.count i; bytes = block_bytes (sym same i) (sym is.blocksize i) };

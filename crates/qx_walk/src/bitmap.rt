@@ -27,12 +27,12 @@ pub(crate) fn first_wrong_bit<D: Dev>(
 ) -> Result<Option<u64>, Halt>
     requires volume { IsVolumeOf shape geometry.now }
     requires met { limit_of met.now ≡ shape.count }
-    requires fits { Fits D.extent shape host.old }
-    ensures bit { (m : BlockMap) → Shows D.tells D.history shape host.new m
+    requires fits { Fits shape (D.outside host.old) }
+    ensures bit { (m : BlockMap) → Shows shape (D.outside host.new) m
         → IfOk result (λ at. at ≡ first_below (is_wrong_bit m geometry.now which met.now) (geometry.now.bitmap_leaves * m.size * 8)) }
-    ensures fits { Fits D.extent shape host.new }
-    ensures reads { JustReads D.tells D.history D.attached D.con_faults host.old host.new }
-    ensures cause { IsCaused (D.dev_faults host.old) (D.dev_faults host.new) result }
+    ensures fits { Fits shape (D.outside host.new) }
+    ensures reads { JustReads (D.outside host.old) (D.outside host.new) }
+    ensures cause { IsCaused (D.outside host.old).dev_faults (D.outside host.new).dev_faults result }
     ensures no_finding { (f : Option Finding) → IfErr result (HaltsAt f) }
 {
     let first = first_of_half(geometry, which);
@@ -58,12 +58,12 @@ fn first_wrong_in_leaf<D: Dev>(
     requires met { limit_of met.now ≡ shape.count }
     requires block { block < shape.count }
     requires begin { begin ≤ 2 ^ 50 }
-    requires fits { Fits D.extent shape host.old }
-    ensures bit { (m : BlockMap) → Shows D.tells D.history shape host.new m
+    requires fits { Fits shape (D.outside host.old) }
+    ensures bit { (m : BlockMap) → Shows shape (D.outside host.new) m
         → IfOk result (IsFirst (is_wrong_in geometry.now met.now begin (m.bytes block)) (begin * 8) ((begin + shape.blocksize) * 8)) }
-    ensures fits { Fits D.extent shape host.new }
-    ensures reads { JustReads D.tells D.history D.attached D.con_faults host.old host.new }
-    ensures cause { IsCaused (D.dev_faults host.old) (D.dev_faults host.new) result }
+    ensures fits { Fits shape (D.outside host.new) }
+    ensures reads { JustReads (D.outside host.old) (D.outside host.new) }
+    ensures cause { IsCaused (D.outside host.old).dev_faults (D.outside host.new).dev_faults result }
     ensures no_finding { (f : Option Finding) → IfErr result (HaltsAt f) }
 {
     let mut buffer = [0; 4096];

@@ -40,8 +40,8 @@ pub fn walk_records<D: Dev>(
     requires placed { All (IsPlaced ground.now.shape directory.now.node) leaves.now }
     requires inside { AreInside ground.now.shape.count seen.old.longs }
     requires listing { IsListing (places_of ground.now.table) seen.old.listing }
-    requires fits { Fits D.extent ground.now.shape host.old }
-    ensures walked { (m : BlockMap) (r : Roots) (queue : List (ℕ × ℕ)) (listed numbers : List ℕ) → Shows D.tells D.history ground.now.shape host.new m
+    requires fits { Fits ground.now.shape (D.outside host.old) }
+    ensures walked { (m : BlockMap) (r : Roots) (queue : List (ℕ × ℕ)) (listed numbers : List ℕ) → Shows ground.now.shape (D.outside host.new) m
         → HoldsInodes m r.inodes ground.now.table → HoldsNames m r.longfile numbers seen.old.longs → HasListed queue listed seen.old.listing
         → AreLeaves m directory.now.node leaves.now → WalksRecords m r directory.now queue listed numbers result seen.new }
 
@@ -49,9 +49,9 @@ pub fn walk_records<D: Dev>(
     ensures inside { AreInside ground.now.shape.count seen.new.longs }
     ensures listing { IsListing (places_of ground.now.table) seen.new.listing }
     ensures next { seen.new.listing.next ≡ seen.old.listing.next }
-    ensures fits { Fits D.extent ground.now.shape host.new }
-    ensures reads { JustReads D.tells D.history D.attached D.con_faults host.old host.new }
-    ensures cause { IsCaused (D.dev_faults host.old) (D.dev_faults host.new) result }
+    ensures fits { Fits ground.now.shape (D.outside host.new) }
+    ensures reads { JustReads (D.outside host.old) (D.outside host.new) }
+    ensures cause { IsCaused (D.outside host.old).dev_faults (D.outside host.new).dev_faults result }
 {
     seen.names.clear();
     let mut dots = false;
@@ -73,19 +73,19 @@ fn walk_leaf<D: Dev>(
     requires placed { IsPlaced ground.now.shape directory.now.node leaf }
     requires inside { AreInside ground.now.shape.count seen.old.longs }
     requires listing { IsListing (places_of ground.now.table) seen.old.listing }
-    requires fits { Fits D.extent ground.now.shape host.old }
-    ensures walked { (m : BlockMap) (r : Roots) (kept : Kept) → Shows D.tells D.history ground.now.shape host.new m
+    requires fits { Fits ground.now.shape (D.outside host.old) }
+    ensures walked { (m : BlockMap) (r : Roots) (kept : Kept) → Shows ground.now.shape (D.outside host.new) m
         → HoldsInodes m r.inodes ground.now.table → Holds m r.longfile kept seen.old → leaf_of m directory.now.node leaf.index ≡ Block leaf.block
         → WalksThrough m r directory.now (leaf_records m directory.now.node leaf.index) kept result seen.new }
-    ensures dots { (m : BlockMap) → Shows D.tells D.history ground.now.shape host.new m → leaf_of m directory.now.node leaf.index ≡ Block leaf.block
+    ensures dots { (m : BlockMap) → Shows ground.now.shape (D.outside host.new) m → leaf_of m directory.now.node leaf.index ≡ Block leaf.block
         → leaf.index ≡ 0 → IfOk result (λ begins. begins ≡ begins_with_dots m directory.now.node) }
 
     ensures inside { AreInside ground.now.shape.count seen.new.longs }
     ensures listing { IsListing (places_of ground.now.table) seen.new.listing }
     ensures next { seen.new.listing.next ≡ seen.old.listing.next }
-    ensures fits { Fits D.extent ground.now.shape host.new }
-    ensures reads { JustReads D.tells D.history D.attached D.con_faults host.old host.new }
-    ensures cause { IsCaused (D.dev_faults host.old) (D.dev_faults host.new) result }
+    ensures fits { Fits ground.now.shape (D.outside host.new) }
+    ensures reads { JustReads (D.outside host.old) (D.outside host.new) }
+    ensures cause { IsCaused (D.outside host.old).dev_faults (D.outside host.new).dev_faults result }
 {
     let mut buffer = [0; 4096];
     let block = &mut buffer[0..ground.shape.blocksize as usize];
@@ -140,17 +140,17 @@ fn walk_record<D: Dev>(
     requires named { NamesSome (raw_of_slot slot) }
     requires inside { AreInside ground.now.shape.count seen.old.longs }
     requires listing { IsListing (places_of ground.now.table) seen.old.listing }
-    requires fits { Fits D.extent ground.now.shape host.old }
-    ensures walked { (m : BlockMap) (r : Roots) (kept : Kept) → Shows D.tells D.history ground.now.shape host.new m
+    requires fits { Fits ground.now.shape (D.outside host.old) }
+    ensures walked { (m : BlockMap) (r : Roots) (kept : Kept) → Shows ground.now.shape (D.outside host.new) m
         → HoldsInodes m r.inodes ground.now.table → Holds m r.longfile kept seen.old
         → WalksRecord m r (record_place at) (raw_of_slot slot.entry) kept result seen.new }
 
     ensures inside { AreInside ground.now.shape.count seen.new.longs }
     ensures listing { IsListing (places_of ground.now.table) seen.new.listing }
     ensures next { seen.new.listing.next ≡ seen.old.listing.next }
-    ensures fits { Fits D.extent ground.now.shape host.new }
-    ensures reads { JustReads D.tells D.history D.attached D.con_faults host.old host.new }
-    ensures cause { IsCaused (D.dev_faults host.old) (D.dev_faults host.new) result }
+    ensures fits { Fits ground.now.shape (D.outside host.new) }
+    ensures reads { JustReads (D.outside host.old) (D.outside host.new) }
+    ensures cause { IsCaused (D.outside host.old).dev_faults (D.outside host.new).dev_faults result }
 {
     match slot {
         Slot::Unused => Ok(()),
@@ -173,17 +173,17 @@ fn walk_long<D: Dev>(
     requires named { 0 < inode }
     requires inside { AreInside ground.now.shape.count seen.old.longs }
     requires listing { IsListing (places_of ground.now.table) seen.old.listing }
-    requires fits { Fits D.extent ground.now.shape host.old }
-    ensures walked { (m : BlockMap) (r : Roots) (kept : Kept) → Shows D.tells D.history ground.now.shape host.new m
+    requires fits { Fits ground.now.shape (D.outside host.old) }
+    ensures walked { (m : BlockMap) (r : Roots) (kept : Kept) → Shows ground.now.shape (D.outside host.new) m
         → HoldsInodes m r.inodes ground.now.table → Holds m r.longfile kept seen.old
         → WalksRecord m r (record_place at) (Long inode number sum) kept result seen.new }
 
     ensures inside { AreInside ground.now.shape.count seen.new.longs }
     ensures listing { IsListing (places_of ground.now.table) seen.new.listing }
     ensures next { seen.new.listing.next ≡ seen.old.listing.next }
-    ensures fits { Fits D.extent ground.now.shape host.new }
-    ensures reads { JustReads D.tells D.history D.attached D.con_faults host.old host.new }
-    ensures cause { IsCaused (D.dev_faults host.old) (D.dev_faults host.new) result }
+    ensures fits { Fits ground.now.shape (D.outside host.new) }
+    ensures reads { JustReads (D.outside host.old) (D.outside host.new) }
+    ensures cause { IsCaused (D.outside host.old).dev_faults (D.outside host.new).dev_faults result }
 {
     let mut buffer = [0; 4096];
     let leaf = &mut buffer[0..ground.shape.blocksize as usize];

@@ -27,11 +27,11 @@ pub(crate) fn is_laid_out<D: Dev>(
 ) -> Result<bool, Halt>
     requires volume { IsVolumeOf shape geometry.now }
     requires met { limit_of met.now ≡ shape.count }
-    requires fits { Fits D.extent shape host.old }
-    ensures right { (m : BlockMap) → Shows D.tells D.history shape host.new m → IfOk result (λ right. right ≡ is_laid_out_by m view.now geometry.now which met.now) }
-    ensures fits { Fits D.extent shape host.new }
-    ensures reads { JustReads D.tells D.history D.attached D.con_faults host.old host.new }
-    ensures cause { IsCaused (D.dev_faults host.old) (D.dev_faults host.new) result }
+    requires fits { Fits shape (D.outside host.old) }
+    ensures right { (m : BlockMap) → Shows shape (D.outside host.new) m → IfOk result (λ right. right ≡ is_laid_out_by m view.now geometry.now which met.now) }
+    ensures fits { Fits shape (D.outside host.new) }
+    ensures reads { JustReads (D.outside host.old) (D.outside host.new) }
+    ensures cause { IsCaused (D.outside host.old).dev_faults (D.outside host.new).dev_faults result }
     ensures no_finding { (f : Option Finding) → IfErr result (HaltsAt f) }
 {
     if view.root(RootName::Bitmap) != geometry.system_root(which, true)
@@ -55,11 +55,11 @@ fn has_system_trees<D: Dev>(
     which: Which,
 ) -> Result<bool, Halt>
     requires volume { IsVolumeOf shape geometry.now }
-    requires fits { Fits D.extent shape host.old }
-    ensures words { (m : BlockMap) → Shows D.tells D.history shape host.new m → IfOk result (λ right. right ≡ has_system_trees m geometry.now which) }
-    ensures fits { Fits D.extent shape host.new }
-    ensures reads { JustReads D.tells D.history D.attached D.con_faults host.old host.new }
-    ensures cause { IsCaused (D.dev_faults host.old) (D.dev_faults host.new) result }
+    requires fits { Fits shape (D.outside host.old) }
+    ensures words { (m : BlockMap) → Shows shape (D.outside host.new) m → IfOk result (λ right. right ≡ has_system_trees m geometry.now which) }
+    ensures fits { Fits shape (D.outside host.new) }
+    ensures reads { JustReads (D.outside host.old) (D.outside host.new) }
+    ensures cause { IsCaused (D.outside host.old).dev_faults (D.outside host.new).dev_faults result }
     ensures no_finding { (f : Option Finding) → IfErr result (HaltsAt f) }
 {
     if !has_system_words(host, shape, geometry, which, true)? {
@@ -77,12 +77,12 @@ fn has_system_words<D: Dev>(
     bitmap: bool,
 ) -> Result<bool, Halt>
     requires volume { IsVolumeOf shape geometry.now }
-    requires fits { Fits D.extent shape host.old }
-    ensures words { (m : BlockMap) → Shows D.tells D.history shape host.new m
+    requires fits { Fits shape (D.outside host.old) }
+    ensures words { (m : BlockMap) → Shows shape (D.outside host.new) m
         → IfOk result (λ right. right ≡ is_system_tree m (tree_base geometry.now which bitmap) (tree_leaves geometry.now bitmap)) }
-    ensures fits { Fits D.extent shape host.new }
-    ensures reads { JustReads D.tells D.history D.attached D.con_faults host.old host.new }
-    ensures cause { IsCaused (D.dev_faults host.old) (D.dev_faults host.new) result }
+    ensures fits { Fits shape (D.outside host.new) }
+    ensures reads { JustReads (D.outside host.old) (D.outside host.new) }
+    ensures cause { IsCaused (D.outside host.old).dev_faults (D.outside host.new).dev_faults result }
     ensures no_finding { (f : Option Finding) → IfErr result (HaltsAt f) }
 {
     let (first, behind) = pointer_blocks(geometry, which, bitmap);
@@ -105,12 +105,12 @@ fn has_right_words<D: Dev>(
 ) -> Result<bool, Halt>
     requires volume { IsVolumeOf shape geometry.now }
     requires block { IsPointerBlock geometry.now which bitmap block }
-    requires fits { Fits D.extent shape host.old }
-    ensures words { (m : BlockMap) → Shows D.tells D.history shape host.new m
+    requires fits { Fits shape (D.outside host.old) }
+    ensures words { (m : BlockMap) → Shows shape (D.outside host.new) m
         → IfOk result (λ right. right ≡ are_words_of geometry.now which bitmap block m.order (m.bytes block)) }
-    ensures fits { Fits D.extent shape host.new }
-    ensures reads { JustReads D.tells D.history D.attached D.con_faults host.old host.new }
-    ensures cause { IsCaused (D.dev_faults host.old) (D.dev_faults host.new) result }
+    ensures fits { Fits shape (D.outside host.new) }
+    ensures reads { JustReads (D.outside host.old) (D.outside host.new) }
+    ensures cause { IsCaused (D.outside host.old).dev_faults (D.outside host.new).dev_faults result }
     ensures no_finding { (f : Option Finding) → IfErr result (HaltsAt f) }
 {
     let mut buffer = [0; 4096];

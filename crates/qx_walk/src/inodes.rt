@@ -30,17 +30,17 @@ pub(crate) fn walk_inodes<D: Dev>(
     requires met { limit_of way.old.met ≡ ground.now.shape.count }
     requires inside { AreInside ground.now.shape.count seen.old.longs }
     requires listing { IsListing (places_of ground.now.table) seen.old.listing }
-    requires fits { Fits D.extent ground.now.shape host.old }
-    ensures walked { (m : BlockMap) (r : Roots) → Shows D.tells D.history ground.now.shape host.new m → HoldsInodes m r.inodes ground.now.table
+    requires fits { Fits ground.now.shape (D.outside host.old) }
+    ensures walked { (m : BlockMap) (r : Roots) → Shows ground.now.shape (D.outside host.new) m → HoldsInodes m r.inodes ground.now.table
         → Begins m r way.old seen.old → WalksAll m r result way.new seen.new }
 
     // Whether the device tells or not.
     ensures limit { limit_of way.new.met ≡ limit_of way.old.met }
     ensures inside { AreInside ground.now.shape.count seen.new.longs }
     ensures listing { IsListing (places_of ground.now.table) seen.new.listing }
-    ensures fits { Fits D.extent ground.now.shape host.new }
-    ensures reads { JustReads D.tells D.history D.attached D.con_faults host.old host.new }
-    ensures cause { IsCaused (D.dev_faults host.old) (D.dev_faults host.new) result }
+    ensures fits { Fits ground.now.shape (D.outside host.new) }
+    ensures reads { JustReads (D.outside host.old) (D.outside host.new) }
+    ensures cause { IsCaused (D.outside host.old).dev_faults (D.outside host.new).dev_faults result }
 {
     while let Some(queued) = seen.listing.take() {
         walk_inode(host, ground, queued, way, seen)?;
@@ -60,8 +60,8 @@ fn walk_inode<D: Dev>(
     requires met { limit_of way.old.met ≡ ground.now.shape.count }
     requires inside { AreInside ground.now.shape.count seen.old.longs }
     requires listing { IsListing (places_of ground.now.table) seen.old.listing }
-    requires fits { Fits D.extent ground.now.shape host.old }
-    ensures walked { (m : BlockMap) (r : Roots) (done : Done) → Shows D.tells D.history ground.now.shape host.new m → HoldsInodes m r.inodes ground.now.table
+    requires fits { Fits ground.now.shape (D.outside host.old) }
+    ensures walked { (m : BlockMap) (r : Roots) (done : Done) → Shows ground.now.shape (D.outside host.new) m → HoldsInodes m r.inodes ground.now.table
         → Remembers m r done way.old seen.old → is_some (kind_of (inode_mode m r queued.inode)) ≡ true
         → WalksInode m r queued.inode queued.parent done result way.new seen.new }
 
@@ -69,9 +69,9 @@ fn walk_inode<D: Dev>(
     ensures inside { AreInside ground.now.shape.count seen.new.longs }
     ensures listing { IsListing (places_of ground.now.table) seen.new.listing }
     ensures next { seen.new.listing.next ≡ seen.old.listing.next }
-    ensures fits { Fits D.extent ground.now.shape host.new }
-    ensures reads { JustReads D.tells D.history D.attached D.con_faults host.old host.new }
-    ensures cause { IsCaused (D.dev_faults host.old) (D.dev_faults host.new) result }
+    ensures fits { Fits ground.now.shape (D.outside host.new) }
+    ensures reads { JustReads (D.outside host.old) (D.outside host.new) }
+    ensures cause { IsCaused (D.outside host.old).dev_faults (D.outside host.new).dev_faults result }
 {
     let inode = ground.table.inode(queued.inode);
     // The records that listed it were tested for its kind.
@@ -125,8 +125,8 @@ fn walk_directory<D: Dev>(
     requires met { limit_of way.old.met ≡ ground.now.shape.count }
     requires inside { AreInside ground.now.shape.count seen.old.longs }
     requires listing { IsListing (places_of ground.now.table) seen.old.listing }
-    requires fits { Fits D.extent ground.now.shape host.old }
-    ensures walked { (m : BlockMap) (r : Roots) (done : Done) → Shows D.tells D.history ground.now.shape host.new m → HoldsInodes m r.inodes ground.now.table
+    requires fits { Fits ground.now.shape (D.outside host.old) }
+    ensures walked { (m : BlockMap) (r : Roots) (done : Done) → Shows ground.now.shape (D.outside host.new) m → HoldsInodes m r.inodes ground.now.table
         → Remembers m r done way.old seen.old → kind_of (inode_mode m r directory.now.inode) ≡ Some kinds.Directory → directory.now.node ≡ inode_root m r directory.now.inode
         → WalksInode m r directory.now.inode directory.now.parent done result way.new seen.new }
 
@@ -134,9 +134,9 @@ fn walk_directory<D: Dev>(
     ensures inside { AreInside ground.now.shape.count seen.new.longs }
     ensures listing { IsListing (places_of ground.now.table) seen.new.listing }
     ensures next { seen.new.listing.next ≡ seen.old.listing.next }
-    ensures fits { Fits D.extent ground.now.shape host.new }
-    ensures reads { JustReads D.tells D.history D.attached D.con_faults host.old host.new }
-    ensures cause { IsCaused (D.dev_faults host.old) (D.dev_faults host.new) result }
+    ensures fits { Fits ground.now.shape (D.outside host.new) }
+    ensures reads { JustReads (D.outside host.old) (D.outside host.new) }
+    ensures cause { IsCaused (D.outside host.old).dev_faults (D.outside host.new).dev_faults result }
 {
     let part = walk_own_node(
         host,

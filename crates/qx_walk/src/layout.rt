@@ -73,12 +73,12 @@ pub fn first_reason<D: Dev>(
     requires shape { IsShapeOf view.now shape }
     requires geometry { IfSome geometry (HasNumbers view.now) }
     requires bounds { HasBounds shape.count walked.now }
-    requires fits { Fits D.extent shape host.old }
-    ensures reason { (m : BlockMap) (len : ℕ) → Shows D.tells D.history shape host.new m → written_geometry view.now len ≡ geometry → IsWalked m (main_roots view.now) walked.now
+    requires fits { Fits shape (D.outside host.old) }
+    ensures reason { (m : BlockMap) (len : ℕ) → Shows shape (D.outside host.new) m → written_geometry view.now len ≡ geometry → IsWalked m (main_roots view.now) walked.now
         → IfOk result (λ reason. option_map reason_in reason ≡ reason_with m view.now which geometry) }
-    ensures fits { Fits D.extent shape host.new }
-    ensures reads { JustReads D.tells D.history D.attached D.con_faults host.old host.new }
-    ensures cause { IsCaused (D.dev_faults host.old) (D.dev_faults host.new) result }
+    ensures fits { Fits shape (D.outside host.new) }
+    ensures reads { JustReads (D.outside host.old) (D.outside host.new) }
+    ensures cause { IsCaused (D.outside host.old).dev_faults (D.outside host.new).dev_faults result }
     ensures no_finding { (f : Option Finding) → IfErr result (HaltsAt f) }
 {
     let Some(geometry) = geometry else {

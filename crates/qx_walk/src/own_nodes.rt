@@ -28,17 +28,17 @@ pub(crate) fn walk_own_node<D: Dev>(
     way: &mut Way,
 ) -> Result<Part, Halt>
     requires met { limit_of way.old.met ≡ shape.count }
-    requires fits { Fits D.extent shape host.old }
-    ensures walked { (m : BlockMap) (met : List ℕ) → Shows D.tells D.history shape host.new m → Marks way.old.met met
+    requires fits { Fits shape (D.outside host.old) }
+    ensures walked { (m : BlockMap) (met : List ℕ) → Shows shape (D.outside host.new) m → Marks way.old.met met
         → WalksNode m n node.now keeps met result way.old way.new }
 
     // Whether the device tells or not.
     ensures placed { OnOk result (All (IsPlaced shape node.now) way.new.leaves.items) }
     ensures dots { way.new.notes.dots ≡ way.old.notes.dots }
     ensures limit { limit_of way.new.met ≡ limit_of way.old.met }
-    ensures fits { Fits D.extent shape host.new }
-    ensures reads { JustReads D.tells D.history D.attached D.con_faults host.old host.new }
-    ensures cause { IsCaused (D.dev_faults host.old) (D.dev_faults host.new) result }
+    ensures fits { Fits shape (D.outside host.new) }
+    ensures reads { JustReads (D.outside host.old) (D.outside host.new) }
+    ensures cause { IsCaused (D.outside host.old).dev_faults (D.outside host.new).dev_faults result }
 {
     way.leaves.clear();
     let visitor = Visitor {
@@ -85,12 +85,12 @@ pub(crate) fn noted(before: Option<u32>, fails: bool, n: u32) -> Option<u32>
 /// Whether a byte past a node's size, in its last leaf, isn't 0.
 fn has_tail<D: Dev>(host: &mut D, shape: Shape, node: &Root, part: Part) -> Result<bool, Halt>
     requires end { IfSome part.end (λ block. block < shape.count) }
-    requires fits { Fits D.extent shape host.old }
-    ensures tail { (m : BlockMap) → Shows D.tells D.history shape host.new m → IfOk result (λ tail. tail ≡ tail_at m (node.now.size % m.size) part.end) }
+    requires fits { Fits shape (D.outside host.old) }
+    ensures tail { (m : BlockMap) → Shows shape (D.outside host.new) m → IfOk result (λ tail. tail ≡ tail_at m (node.now.size % m.size) part.end) }
     ensures no_finding { (f : Option Finding) → IfErr result (HaltsAt f) }
-    ensures fits { Fits D.extent shape host.new }
-    ensures reads { JustReads D.tells D.history D.attached D.con_faults host.old host.new }
-    ensures cause { IsCaused (D.dev_faults host.old) (D.dev_faults host.new) result }
+    ensures fits { Fits shape (D.outside host.new) }
+    ensures reads { JustReads (D.outside host.old) (D.outside host.new) }
+    ensures cause { IsCaused (D.outside host.old).dev_faults (D.outside host.new).dev_faults result }
 {
     let Some(block) = part.end else {
         return Ok(false);

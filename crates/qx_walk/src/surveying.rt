@@ -21,12 +21,12 @@ use std::alloc::Global;
 
 /// Walks an image of `len` bytes, and says what it is: which area is active, what its tree holds, and whether it is laid out as this project writes it.
 pub fn walk<D: Dev>(alloc: Global, host: &mut D, len: u64) -> Result<Survey, WalkFault>
-    requires len { IfSome (D.extent host.old) (λ n. n ≡ len) }
-    ensures says { IsTrue (D.tells host.new) → SaysOf (bytes_of (D.history host.old)) result }
-    ensures reads { JustReads D.tells D.history D.attached D.con_faults host.old host.new }
-    ensures later { D.dev_faults host.old ≤ D.dev_faults host.new }
-    ensures device { result ≡ Err faults.Device → Rose (D.dev_faults host.old) (D.dev_faults host.new) }
-    ensures kept { (result ≡ Err faults.Device → ⊥) → D.dev_faults host.new ≡ D.dev_faults host.old }
+    requires len { IfSome (D.outside host.old).extent (λ n. n ≡ len) }
+    ensures says { IsTrue (D.outside host.new).tells → SaysOf (bytes_of (D.outside host.old).history) result }
+    ensures reads { JustReads (D.outside host.old) (D.outside host.new) }
+    ensures later { (D.outside host.old).dev_faults ≤ (D.outside host.new).dev_faults }
+    ensures device { result ≡ Err faults.Device → Rose (D.outside host.old).dev_faults (D.outside host.new).dev_faults }
+    ensures kept { (result ≡ Err faults.Device → ⊥) → (D.outside host.new).dev_faults ≡ (D.outside host.old).dev_faults }
 {
     let mut first = [0; 512];
     let mut second = [0; 512];
@@ -51,14 +51,14 @@ fn survey<D: Dev>(
     which: Which,
     view: &SuperView<'_>,
 ) -> Result<Survey, WalkFault>
-    requires len { IfSome (D.extent host.old) (λ n. n ≡ len) }
+    requires len { IfSome (D.outside host.old).extent (λ n. n ≡ len) }
     requires sized { IsTrue (is_block_size view.now.blocksize) }
     requires room { second_place_of view.now + 512 ≤ len }
-    ensures says { (img : List ℕ) → IsTrue (D.tells host.new) → bytes_of (D.history host.old) ≡ img → active_area img ≡ picks.Active which → active_super img ≡ Some view.now → SaysOf img result }
-    ensures reads { JustReads D.tells D.history D.attached D.con_faults host.old host.new }
-    ensures later { D.dev_faults host.old ≤ D.dev_faults host.new }
-    ensures device { result ≡ Err faults.Device → Rose (D.dev_faults host.old) (D.dev_faults host.new) }
-    ensures kept { (result ≡ Err faults.Device → ⊥) → D.dev_faults host.new ≡ D.dev_faults host.old }
+    ensures says { (img : List ℕ) → IsTrue (D.outside host.new).tells → bytes_of (D.outside host.old).history ≡ img → active_area img ≡ picks.Active which → active_super img ≡ Some view.now → SaysOf img result }
+    ensures reads { JustReads (D.outside host.old) (D.outside host.new) }
+    ensures later { (D.outside host.old).dev_faults ≤ (D.outside host.new).dev_faults }
+    ensures device { result ≡ Err faults.Device → Rose (D.outside host.old).dev_faults (D.outside host.new).dev_faults }
+    ensures kept { (result ≡ Err faults.Device → ⊥) → (D.outside host.new).dev_faults ≡ (D.outside host.old).dev_faults }
 {
     let shape = Shape {
         order: view.order(),

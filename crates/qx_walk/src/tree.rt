@@ -29,15 +29,15 @@ pub fn walk_tree<D: Dev>(
     shape: Shape,
     roots: &RootNodes,
 ) -> Result<Walked, Halt>
-    requires fits { Fits D.extent shape host.old }
-    ensures answer { (m : BlockMap) → Shows D.tells D.history shape host.new m → Answers (finding_of m (roots_of roots.now)) result }
-    ensures walked { (m : BlockMap) → Shows D.tells D.history shape host.new m → IfOk result (IsWalked m (roots_of roots.now)) }
+    requires fits { Fits shape (D.outside host.old) }
+    ensures answer { (m : BlockMap) → Shows shape (D.outside host.new) m → Answers (finding_of m (roots_of roots.now)) result }
+    ensures walked { (m : BlockMap) → Shows shape (D.outside host.new) m → IfOk result (IsWalked m (roots_of roots.now)) }
 
     // Whether the device tells or not.
     ensures bounds { IfOk result (HasBounds shape.count) }
-    ensures fits { Fits D.extent shape host.new }
-    ensures reads { JustReads D.tells D.history D.attached D.con_faults host.old host.new }
-    ensures cause { IsCaused (D.dev_faults host.old) (D.dev_faults host.new) result }
+    ensures fits { Fits shape (D.outside host.new) }
+    ensures reads { JustReads (D.outside host.old) (D.outside host.new) }
+    ensures cause { IsCaused (D.outside host.old).dev_faults (D.outside host.new).dev_faults result }
 {
     let mut met = BlockSet::new(alloc, shape.count)?;
     let mut leaves = Vec::new(alloc);

@@ -1,9 +1,10 @@
 -- A node over a cache stays one where its blocks are frozen or written.
 use Rattle.std.proofs.Common.{◌≡◌, ◌∙◌, ℕ, List, ap, sym, subst}
-use Rattle.std.specs.Prelude.{Bool, IsTrue}
+use Rattle.std.specs.Prelude.{IsTrue}
 use Rattle.qx_fields.specs.declared.order.Order.{Order}
 use Rattle.qx_geom.specs.declared.root.Root.{Root}
-use Rattle.qx_outside.specs.Trail.{History, bytes_of}
+use Rattle.qx_outside.specs.Outside.{Outside}
+use Rattle.qx_outside.specs.Trail.{bytes_of}
 use Rattle.qx_alloc.specs.SpaceState.{limit_in}
 use Rattle.qx_blockset.specs.Members.{has}
 use Rattle.qx_blocks.specs.BlockState.{BlockState, Holdings}
@@ -37,26 +38,26 @@ node-alike order m n node a is = record {
       subst (λ x. IsRegular order x node) (joined m n a told) (record { plain = regular.plain; apart = regular.apart });
 }
 
-module _ {H : Type 0} (tells : H → Bool) (history : H → History) where
+module _ {H : Type 0} (outside : H → Outside) where
   -- its blocks are the frozen tree's as well
   pub node-frozen : (order : Order) (c new : CacheState H) (node : Root) → new ≡ with_frozen c → ((device : List ℕ) (b : ℕ) → bytes_over device new b ≡ bytes_over device c b)
-      → IsNode order (state_of tells history c) node → IsNode order (state_of tells history new) node
+      → IsNode order (state_of outside c) node → IsNode order (state_of outside new) node
   node-frozen order c new node is bytes node_is =
-      node-alike order (state_of tells history c) (state_of tells history new) node
+      node-alike order (state_of outside c) (state_of outside new) node
       (record {
         size = ap (λ (x : CacheState H). x.size) is;
         count = ap (λ (x : CacheState H). limit_in x.space) is;
         works = ap (λ (x : CacheState H). has x.space.working) is;
-        before = λ told. subst (λ (x : CacheState H). IsTrue (tells x.host)) is told;
-        bytes = λ told b. bytes (bytes_of (history new.host)) b ∙ ap (λ (x : CacheState H). bytes_over (bytes_of (history x.host)) c b) is;
+        before = λ told. subst (λ (x : CacheState H). IsTrue (outside x.host).tells) is told;
+        bytes = λ told b. bytes (bytes_of (outside new.host).history) b ∙ ap (λ (x : CacheState H). bytes_over (bytes_of (outside x.host).history) c b) is;
       })
       node_is
 
   -- a block was written, or not, or another was
-  pub node-written : (order : Order) (c new : CacheState H) (node : Root) → (IsTrue (tells new.host) → IsTrue (tells c.host)) → HasSameBlocks tells history c new
-      → IsNode order (state_of tells history c) node → IsNode order (state_of tells history new) node
+  pub node-written : (order : Order) (c new : CacheState H) (node : Root) → (IsTrue (outside new.host).tells → IsTrue (outside c.host).tells) → HasSameBlocks outside c new
+      → IsNode order (state_of outside c) node → IsNode order (state_of outside new) node
   node-written order c new node before same is =
-      node-alike order (state_of tells history c) (state_of tells history new) node
+      node-alike order (state_of outside c) (state_of outside new) node
       (record {
         size = ap (λ (h : Holdings). h.size) same.holdings;
         count = ap (λ (h : Holdings). h.count) same.holdings;

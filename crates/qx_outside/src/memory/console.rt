@@ -10,19 +10,19 @@ use crate::schedule::{Fate, fault, lack};
 use crate::{Event, Failed, Host};
 
 impl Host for MemHost {
-    ghost use Rattle.qx_outside.specs.Memory.{all_told, history_of, extent_of, attached_of, reads_of, dev_faults_of, con_faults_of, setup_of, lacked_of, next_fate, counted, taken_off, asked_again, moment_at, GoesBy};
+    ghost use Rattle.qx_outside.specs.Memory.{outside_of, setup_of, lacked_of, next_fate, counted, taken_off, asked_again, moment_at, GoesBy};
 
     fn take(&mut self, into: &mut [u8]) -> Result<usize, Failed>
         requires { 0 < length into.old }
         ensures count { IfOk result (λ n. n ≤ length into.new) }
-        ensures ok { IfOk result (λ n. Did all_told history_of (took (take n into.new)) self.old self.new) }
-        ensures err { OnErr result (Idles all_told history_of self.old self.new) }
-        ensures step { Converses all_told history_of self.old self.new }
-        ensures others { LeavesDevice extent_of attached_of reads_of dev_faults_of self.old self.new }
-        ensures cause { HasCause (con_faults_of self.old) (con_faults_of self.new) result }
+        ensures ok { IfOk result (λ n. Did (took (take n into.new)) (outside_of self.old) (outside_of self.new)) }
+        ensures err { OnErr result (Idles (outside_of self.old) (outside_of self.new)) }
+        ensures step { Converses (outside_of self.old) (outside_of self.new) }
+        ensures others { LeavesDevice (outside_of self.old) (outside_of self.new) }
+        ensures cause { HasCause (outside_of self.old).con_faults (outside_of self.new).con_faults result }
         ensures most { IfOk result (λ n. n ≡ min (length (setup_of self.old).input) (length into.old)) }
         ensures bytes { IfOk result (λ n. into.new ≡ take n (setup_of self.old).input ++ drop n into.old) }
-        ensures rule { lacked_of self.new ≡ false → (lacked_of self.old ≡ false) × GoesBy (next_fate self.old) (is_ok result) (Some (took (take (min (length (setup_of self.old).input) (length into.old)) (setup_of self.old).input))) None (history_of self.old) (history_of self.new) }
+        ensures rule { lacked_of self.new ≡ false → (lacked_of self.old ≡ false) × GoesBy (next_fate self.old) (is_ok result) (Some (took (take (min (length (setup_of self.old).input) (length into.old)) (setup_of self.old).input))) None (outside_of self.old).history (outside_of self.new).history }
         ensures setup { IfOk result (λ n. setup_of self.new ≡ taken_off n (setup_of self.old)) }
         ensures setup_err { OnErr result (setup_of self.new ≡ counted (setup_of self.old)) }
     {
@@ -46,12 +46,12 @@ impl Host for MemHost {
     }
 
     fn put(&mut self, bytes: &[u8]) -> Result<(), Failed>
-        ensures ok { OnOk result (Did all_told history_of (gave bytes.now) self.old self.new) }
-        ensures err { OnErr result (FailsToGive all_told history_of bytes.now self.old self.new) }
-        ensures step { Converses all_told history_of self.old self.new }
-        ensures others { LeavesDevice extent_of attached_of reads_of dev_faults_of self.old self.new }
-        ensures cause { HasCause (con_faults_of self.old) (con_faults_of self.new) result }
-        ensures rule { lacked_of self.new ≡ false → (lacked_of self.old ≡ false) × GoesBy (next_fate self.old) (is_ok result) (Some (gave bytes.now)) (Some (gave (take (length bytes.now / 2) bytes.now))) (history_of self.old) (history_of self.new) }
+        ensures ok { OnOk result (Did (gave bytes.now) (outside_of self.old) (outside_of self.new)) }
+        ensures err { OnErr result (FailsToGive bytes.now (outside_of self.old) (outside_of self.new)) }
+        ensures step { Converses (outside_of self.old) (outside_of self.new) }
+        ensures others { LeavesDevice (outside_of self.old) (outside_of self.new) }
+        ensures cause { HasCause (outside_of self.old).con_faults (outside_of self.new).con_faults result }
+        ensures rule { lacked_of self.new ≡ false → (lacked_of self.old ≡ false) × GoesBy (next_fate self.old) (is_ok result) (Some (gave bytes.now)) (Some (gave (take (length bytes.now / 2) bytes.now))) (outside_of self.old).history (outside_of self.new).history }
         ensures setup { setup_of self.new ≡ counted (setup_of self.old) }
     {
         let full = self.is_full();
@@ -74,12 +74,12 @@ impl Host for MemHost {
     }
 
     fn now(&mut self) -> Result<u32, Failed>
-        ensures ok { IfOk result (λ moment. Did all_told history_of (told_moment moment) self.old self.new) }
-        ensures err { OnErr result (Idles all_told history_of self.old self.new) }
-        ensures step { Converses all_told history_of self.old self.new }
-        ensures others { LeavesDevice extent_of attached_of reads_of dev_faults_of self.old self.new }
-        ensures cause { HasCause (con_faults_of self.old) (con_faults_of self.new) result }
-        ensures rule { lacked_of self.new ≡ false → (lacked_of self.old ≡ false) × GoesBy (next_fate self.old) (is_ok result) (Some (told_moment (moment_at (setup_of self.old)))) None (history_of self.old) (history_of self.new) }
+        ensures ok { IfOk result (λ moment. Did (told_moment moment) (outside_of self.old) (outside_of self.new)) }
+        ensures err { OnErr result (Idles (outside_of self.old) (outside_of self.new)) }
+        ensures step { Converses (outside_of self.old) (outside_of self.new) }
+        ensures others { LeavesDevice (outside_of self.old) (outside_of self.new) }
+        ensures cause { HasCause (outside_of self.old).con_faults (outside_of self.new).con_faults result }
+        ensures rule { lacked_of self.new ≡ false → (lacked_of self.old ≡ false) × GoesBy (next_fate self.old) (is_ok result) (Some (told_moment (moment_at (setup_of self.old)))) None (outside_of self.old).history (outside_of self.new).history }
         ensures setup { OnOk result (setup_of self.new ≡ asked_again (setup_of self.old)) }
         ensures setup_err { OnErr result (setup_of self.new ≡ counted (setup_of self.old)) }
     {

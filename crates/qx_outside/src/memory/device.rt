@@ -12,30 +12,18 @@ use crate::schedule::{Fate, fault, lack};
 use crate::{Dev, Event, Failed, Recorded};
 
 impl Dev for MemHost {
-    ghost use Rattle.qx_outside.specs.Memory.{all_told, history_of, extent_of, attached_of, reads_of, dev_faults_of, con_faults_of, setup_of, lacked_of, next_fate, counted, GoesBy, half_left};
+    ghost use Rattle.qx_outside.specs.Memory.{outside_of, setup_of, lacked_of, next_fate, counted, GoesBy, half_left};
 
-    ghost tells = { all_told };
-
-    ghost history = { history_of };
-
-    ghost extent = { extent_of };
-
-    ghost attached = { attached_of };
-
-    ghost dev_reads = { reads_of };
-
-    ghost dev_faults = { dev_faults_of };
-
-    ghost con_faults = { con_faults_of };
+    ghost outside = { outside_of };
 
     fn attach(&mut self, path: &str, create: bool) -> Result<(), Failed>
-        ensures step { Idles all_told history_of self.old self.new }
-        ensures attached { Becomes (attached_of self.old) (attached_of self.new) (λ old new. new ≡ record { path = path.now; create = create } ∷ old) }
-        ensures kept { lacked_of self.new ≡ false → attached_of self.new ≡ option_map (λ old. record { path = path.now; create = create } ∷ old) (attached_of self.old) }
-        ensures reads { reads_of self.new ≡ reads_of self.old }
-        ensures console { con_faults_of self.new ≡ con_faults_of self.old }
-        ensures cause { HasCause (dev_faults_of self.old) (dev_faults_of self.new) result }
-        ensures rule { lacked_of self.new ≡ false → (lacked_of self.old ≡ false) × GoesBy (next_fate self.old) (is_ok result) None None (history_of self.old) (history_of self.new) }
+        ensures step { Idles (outside_of self.old) (outside_of self.new) }
+        ensures attached { Becomes (outside_of self.old).attached (outside_of self.new).attached (λ old new. new ≡ record { path = path.now; create = create } ∷ old) }
+        ensures kept { lacked_of self.new ≡ false → (outside_of self.new).attached ≡ option_map (λ old. record { path = path.now; create = create } ∷ old) (outside_of self.old).attached }
+        ensures reads { (outside_of self.new).dev_reads ≡ (outside_of self.old).dev_reads }
+        ensures console { (outside_of self.new).con_faults ≡ (outside_of self.old).con_faults }
+        ensures cause { HasCause (outside_of self.old).dev_faults (outside_of self.new).dev_faults result }
+        ensures rule { lacked_of self.new ≡ false → (lacked_of self.old ≡ false) × GoesBy (next_fate self.old) (is_ok result) None None (outside_of self.old).history (outside_of self.new).history }
         ensures setup { setup_of self.new ≡ counted (setup_of self.old) }
     {
         let kept = match &mut self.attached {
@@ -55,11 +43,11 @@ impl Dev for MemHost {
     }
 
     fn len(&mut self) -> Result<u64, Failed>
-        ensures value { IfOk result (λ n. IfSome (extent_of self.new) (λ len. n ≡ len)) }
-        ensures step { Idles all_told history_of self.old self.new }
-        ensures others { LeavesRest extent_of attached_of reads_of con_faults_of self.old self.new }
-        ensures cause { HasCause (dev_faults_of self.old) (dev_faults_of self.new) result }
-        ensures rule { lacked_of self.new ≡ false → (lacked_of self.old ≡ false) × GoesBy (next_fate self.old) (is_ok result) None None (history_of self.old) (history_of self.new) }
+        ensures value { IfOk result (λ n. IfSome (outside_of self.new).extent (λ len. n ≡ len)) }
+        ensures step { Idles (outside_of self.old) (outside_of self.new) }
+        ensures others { LeavesRest (outside_of self.old) (outside_of self.new) }
+        ensures cause { HasCause (outside_of self.old).dev_faults (outside_of self.new).dev_faults result }
+        ensures rule { lacked_of self.new ≡ false → (lacked_of self.old ≡ false) × GoesBy (next_fate self.old) (is_ok result) None None (outside_of self.old).history (outside_of self.new).history }
         ensures good { next_fate self.old ≡ Fate.Good → IsOk result }
         ensures setup { setup_of self.new ≡ counted (setup_of self.old) }
     {
@@ -71,15 +59,15 @@ impl Dev for MemHost {
     }
 
     fn set_len(&mut self, len: u64) -> Result<(), Failed>
-        ensures ok { OnOk result (Did all_told history_of (sized len true) self.old self.new) }
-        ensures err { OnErr result (MayDo all_told history_of (sized len false) self.old self.new) }
-        ensures step { Sizes all_told history_of len self.old self.new }
-        ensures extent { OnOk result (Becomes (extent_of self.old) (extent_of self.new) (λ old new. new ≡ len)) }
-        ensures extent_err { OnErr result (StaysWhereTold (extent_of self.old) (extent_of self.new)) }
-        ensures reads { reads_of self.new ≡ reads_of self.old }
-        ensures others { LeavesConsole attached_of con_faults_of self.old self.new }
-        ensures cause { HasCause (dev_faults_of self.old) (dev_faults_of self.new) result }
-        ensures rule { lacked_of self.new ≡ false → (lacked_of self.old ≡ false) × GoesBy (next_fate self.old) (is_ok result) (Some (sized len true)) (Some (sized len false)) (history_of self.old) (history_of self.new) }
+        ensures ok { OnOk result (Did (sized len true) (outside_of self.old) (outside_of self.new)) }
+        ensures err { OnErr result (MayDo (sized len false) (outside_of self.old) (outside_of self.new)) }
+        ensures step { Sizes len (outside_of self.old) (outside_of self.new) }
+        ensures extent { OnOk result (Becomes (outside_of self.old).extent (outside_of self.new).extent (λ old new. new ≡ len)) }
+        ensures extent_err { OnErr result (StaysWhereTold (outside_of self.old).extent (outside_of self.new).extent) }
+        ensures reads { (outside_of self.new).dev_reads ≡ (outside_of self.old).dev_reads }
+        ensures others { LeavesConsole (outside_of self.old) (outside_of self.new) }
+        ensures cause { HasCause (outside_of self.old).dev_faults (outside_of self.new).dev_faults result }
+        ensures rule { lacked_of self.new ≡ false → (lacked_of self.old ≡ false) × GoesBy (next_fate self.old) (is_ok result) (Some (sized len true)) (Some (sized len false)) (outside_of self.old).history (outside_of self.new).history }
         ensures setup { setup_of self.new ≡ counted (setup_of self.old) }
     {
         let full = self.is_full();
@@ -105,15 +93,15 @@ impl Dev for MemHost {
     }
 
     fn read_at(&mut self, at: u64, into: &mut [u8]) -> Result<(), Failed>
-        requires { IfSome (extent_of self.old) (λ len. at + length into.old ≤ len) }
-        ensures bytes { OnOk result (IsTrue (all_told self.new) → into.new ≡ slice_range (bytes_of (history_of self.old)) at (at + length into.old)) }
-        ensures step { Idles all_told history_of self.old self.new }
-        ensures extent { StaysWhereTold (extent_of self.old) (extent_of self.new) }
-        ensures reads { OnOk result (reads_of self.new ≡ option_map (λ n. n + 1) (reads_of self.old)) }
-        ensures reads_err { OnErr result (reads_of self.new ≡ reads_of self.old) }
-        ensures others { LeavesConsole attached_of con_faults_of self.old self.new }
-        ensures cause { HasCause (dev_faults_of self.old) (dev_faults_of self.new) result }
-        ensures rule { lacked_of self.new ≡ false → (lacked_of self.old ≡ false) × GoesBy (next_fate self.old) (is_ok result) None None (history_of self.old) (history_of self.new) }
+        requires { IfSome (outside_of self.old).extent (λ len. at + length into.old ≤ len) }
+        ensures bytes { OnOk result (IsTrue (outside_of self.new).tells → into.new ≡ slice_range (bytes_of (outside_of self.old).history) at (at + length into.old)) }
+        ensures step { Idles (outside_of self.old) (outside_of self.new) }
+        ensures extent { StaysWhereTold (outside_of self.old).extent (outside_of self.new).extent }
+        ensures reads { OnOk result ((outside_of self.new).dev_reads ≡ option_map (λ n. n + 1) (outside_of self.old).dev_reads) }
+        ensures reads_err { OnErr result ((outside_of self.new).dev_reads ≡ (outside_of self.old).dev_reads) }
+        ensures others { LeavesConsole (outside_of self.old) (outside_of self.new) }
+        ensures cause { HasCause (outside_of self.old).dev_faults (outside_of self.new).dev_faults result }
+        ensures rule { lacked_of self.new ≡ false → (lacked_of self.old ≡ false) × GoesBy (next_fate self.old) (is_ok result) None None (outside_of self.old).history (outside_of self.new).history }
         ensures good { next_fate self.old ≡ Fate.Good → IsOk result }
         ensures setup { setup_of self.new ≡ counted (setup_of self.old) }
     {
@@ -129,13 +117,13 @@ impl Dev for MemHost {
     }
 
     fn write_at(&mut self, at: u64, bytes: &[u8]) -> Result<(), Failed>
-        requires { IfSome (extent_of self.old) (λ len. at + length bytes.now ≤ len) }
-        ensures ok { OnOk result (Did all_told history_of (wrote at bytes.now bytes.now true) self.old self.new) }
-        ensures err { OnErr result (FailsToWrite all_told history_of at bytes.now self.old self.new) }
-        ensures step { Writes all_told history_of at bytes.now self.old self.new }
-        ensures others { LeavesRest extent_of attached_of reads_of con_faults_of self.old self.new }
-        ensures cause { HasCause (dev_faults_of self.old) (dev_faults_of self.new) result }
-        ensures rule { lacked_of self.new ≡ false → (lacked_of self.old ≡ false) × GoesBy (next_fate self.old) (is_ok result) (Some (wrote at bytes.now bytes.now true)) (Some (wrote at bytes.now (half_left (bytes_of (history_of self.old)) at bytes.now) false)) (history_of self.old) (history_of self.new) }
+        requires { IfSome (outside_of self.old).extent (λ len. at + length bytes.now ≤ len) }
+        ensures ok { OnOk result (Did (wrote at bytes.now bytes.now true) (outside_of self.old) (outside_of self.new)) }
+        ensures err { OnErr result (FailsToWrite at bytes.now (outside_of self.old) (outside_of self.new)) }
+        ensures step { Writes at bytes.now (outside_of self.old) (outside_of self.new) }
+        ensures others { LeavesRest (outside_of self.old) (outside_of self.new) }
+        ensures cause { HasCause (outside_of self.old).dev_faults (outside_of self.new).dev_faults result }
+        ensures rule { lacked_of self.new ≡ false → (lacked_of self.old ≡ false) × GoesBy (next_fate self.old) (is_ok result) (Some (wrote at bytes.now bytes.now true)) (Some (wrote at bytes.now (half_left (bytes_of (outside_of self.old).history) at bytes.now) false)) (outside_of self.old).history (outside_of self.new).history }
         ensures setup { setup_of self.new ≡ counted (setup_of self.old) }
     {
         let full = self.is_full();
@@ -166,12 +154,12 @@ impl Dev for MemHost {
     }
 
     fn sync(&mut self) -> Result<(), Failed>
-        ensures ok { OnOk result (Did all_told history_of (synced true) self.old self.new) }
-        ensures err { OnErr result (MayDo all_told history_of (synced false) self.old self.new) }
-        ensures step { Syncs all_told history_of self.old self.new }
-        ensures others { LeavesRest extent_of attached_of reads_of con_faults_of self.old self.new }
-        ensures cause { HasCause (dev_faults_of self.old) (dev_faults_of self.new) result }
-        ensures rule { lacked_of self.new ≡ false → (lacked_of self.old ≡ false) × GoesBy (next_fate self.old) (is_ok result) (Some (synced true)) (Some (synced false)) (history_of self.old) (history_of self.new) }
+        ensures ok { OnOk result (Did (synced true) (outside_of self.old) (outside_of self.new)) }
+        ensures err { OnErr result (MayDo (synced false) (outside_of self.old) (outside_of self.new)) }
+        ensures step { Syncs (outside_of self.old) (outside_of self.new) }
+        ensures others { LeavesRest (outside_of self.old) (outside_of self.new) }
+        ensures cause { HasCause (outside_of self.old).dev_faults (outside_of self.new).dev_faults result }
+        ensures rule { lacked_of self.new ≡ false → (lacked_of self.old ≡ false) × GoesBy (next_fate self.old) (is_ok result) (Some (synced true)) (Some (synced false)) (outside_of self.old).history (outside_of self.new).history }
         ensures setup { setup_of self.new ≡ counted (setup_of self.old) }
     {
         let full = self.is_full();

@@ -1,6 +1,6 @@
 //! Long names that are read from a device in memory.
 ghost use Rattle.std.specs.Prelude.{◌≡◌, ◌+◌, IfOk, Some, length};
-ghost use Rattle.qx_outside.specs.Memory.{extent_of};
+ghost use Rattle.qx_outside.specs.Memory.{outside_of};
 
 use super::LongNames;
 use qx_fields::Order::{Big, Little};
@@ -13,7 +13,7 @@ use std::test::Fail;
 
 // A host over so many bytes 0 and this block behind them.
 fn host_over(alloc: Global, before: usize, block: &[u8]) -> Result<MemHost, Fail>
-    ensures { IfOk result (λ host. extent_of host ≡ Some (before + length block.now)) }
+    ensures { IfOk result (λ host. (outside_of host).extent ≡ Some (before + length block.now)) }
 {
     let mut device = vec![in alloc; 0; before]?;
     device.extend_from_slice(block)?;

@@ -49,16 +49,16 @@ pub fn cache_over(alloc: Global, failing: &[u64]) -> Result<Cache<MemHost>, Fail
 // Freezes the working tree, to which a node belongs.
 pub fn freeze<H: Dev>(cache: &mut Cache<H>, node: &Root, order: Order)
     requires unfrozen { cache.old.space.is_frozen ≡ false }
-    requires node { IsNode order (state_of H.tells H.history cache.old) node.now }
-    ensures { IsNode order (state_of H.tells H.history cache.new) node.now }
+    requires node { IsNode order (state_of H.outside cache.old) node.now }
+    ensures { IsNode order (state_of H.outside cache.new) node.now }
 {
     cache.freeze();
 }
 
 // Puts the changed blocks of the frozen tree on the device, and answers how many they were.
 pub fn write_all<H: Dev>(cache: &mut Cache<H>, node: &Root, order: Order) -> Result<u32, Failed>
-    requires { IsNode order (state_of H.tells H.history cache.old) node.now }
-    ensures { IsNode order (state_of H.tells H.history cache.new) node.now }
+    requires { IsNode order (state_of H.outside cache.old) node.now }
+    ensures { IsNode order (state_of H.outside cache.new) node.now }
 {
     for count in 0..89 {
         if !cache.write_frozen()? {

@@ -14,7 +14,7 @@ overflow_add-blocks g c = let v = IsGeometry-keeps c.args.volume.now.geometry c.
 
 pub loop-first-init : goal.loop-first-init
 loop-first-init g c = record {
-  begun = λ bytes long. no_piece c.args.volume.now.geometry c.requires.geometry c.args.volume.now.order c.args.volume.now.moment bytes long g.D.Dev.tells g.D.Dev.history c.args.host.now;
+  begun = λ bytes long. no_piece c.args.volume.now.geometry c.requires.geometry c.args.volume.now.order c.args.volume.now.moment bytes long (g.D.Dev.outside c.args.host.now);
   others = search rules;
   faults = refl;
   buffer = refl;
@@ -29,12 +29,12 @@ place-requires-clause-block g c = let v = IsGeometry-keeps c.args.volume.now.geo
 
 pub write_at-requires : goal.write_at-requires
 write_at-requires g c =
-    rw c.place.ensures (piece_told c.args.volume.now.geometry c.requires.geometry c.args.volume.now.order c.args.volume.now.moment c.loop-first.first c.min-count.result c.fill_blocks.new.into (g.D.Dev.extent c.args.host.now) (g.D.Dev.extent c.loop-first.host) c.fill_blocks.ensures
-    (omega (arith, c.min-count.ensures, c.loop-first-test.true)) (told_after (g.D.Dev.extent c.args.host.now) (g.D.Dev.extent c.loop-first.host) (λ n. c.args.volume.now.geometry.len4 ≤ n) c.loop-first.invariant.others.extent_same) c.requires.len)
+    rw c.place.ensures (piece_told c.args.volume.now.geometry c.requires.geometry c.args.volume.now.order c.args.volume.now.moment c.loop-first.first c.min-count.result c.fill_blocks.new.into (g.D.Dev.outside c.args.host.now).extent (g.D.Dev.outside c.loop-first.host).extent c.fill_blocks.ensures
+    (omega (arith, c.min-count.ensures, c.loop-first-test.true)) (told_after (g.D.Dev.outside c.args.host.now).extent (g.D.Dev.outside c.loop-first.host).extent (λ n. c.args.volume.now.geometry.len4 ≤ n) c.loop-first.invariant.others.extent_same) c.requires.len)
 
 pub returns-in_err-write_at-clause-stage : goal.returns-in_err-write_at-clause-stage
 returns-in_err-write_at-clause-stage g c = λ bytes long.
-    piece_fails c.args.volume.now.geometry c.requires.geometry c.args.volume.now.order c.args.volume.now.moment bytes long g.D.Dev.tells g.D.Dev.history c.from_residual.result c.loop-first.first c.min-count.result c.fill_blocks.new.into c.args.host.now c.loop-first.host c.write_at.new.self c.from_residual.ensures.0 c.fill_blocks.ensures
+    piece_fails c.args.volume.now.geometry c.requires.geometry c.args.volume.now.order c.args.volume.now.moment bytes long c.from_residual.result c.loop-first.first c.min-count.result c.fill_blocks.new.into (g.D.Dev.outside c.args.host.now) (g.D.Dev.outside c.loop-first.host) (g.D.Dev.outside c.write_at.new.self) c.from_residual.ensures.0 c.fill_blocks.ensures
     (omega (arith, c.min-count.ensures, c.loop-first-test.true)) (rw c.place.ensures at c.write_at.ensures.step) (c.loop-first.invariant.begun bytes long)
 
 pub overflow_add-first : goal.overflow_add-first
@@ -49,7 +49,7 @@ loop-first-smaller g c =
 
 pub loop-first-preserved : goal.loop-first-preserved
 loop-first-preserved g c = record {
-  begun = λ bytes long. one_piece c.args.volume.now.geometry c.requires.geometry c.args.volume.now.order c.args.volume.now.moment bytes long g.D.Dev.tells g.D.Dev.history c.loop-first.first c.min-count.result c.fill_blocks.new.into c.args.host.now c.loop-first.host c.write_at.new.self c.fill_blocks.ensures
+  begun = λ bytes long. one_piece c.args.volume.now.geometry c.requires.geometry c.args.volume.now.order c.args.volume.now.moment bytes long c.loop-first.first c.min-count.result c.fill_blocks.new.into (g.D.Dev.outside c.args.host.now) (g.D.Dev.outside c.loop-first.host) (g.D.Dev.outside c.write_at.new.self) c.fill_blocks.ensures
       (omega (arith, c.min-count.ensures, c.loop-first-test.true)) (rw c.place.ensures at c.in_ok-write_at.ensures.ok) (rw c.place.ensures at c.write_at.ensures.step) (c.loop-first.invariant.begun bytes long);
   others = record {
     extent_same = told_stays _ _ _ c.loop-first.invariant.others.extent_same c.write_at.ensures.others.extent_same;
@@ -68,4 +68,4 @@ loop-first-preserved g c = record {
 
 pub returns-clause-stage : goal.returns-clause-stage
 returns-clause-stage g c = λ bytes long.
-    pieces_done c.args.volume.now.geometry c.requires.geometry c.args.volume.now.order c.args.volume.now.moment bytes long g.D.Dev.tells g.D.Dev.history tt c.loop-first.first c.args.host.now c.loop-first.host (omega (arith, c.loop-first-test.false, c.loop-first.invariant.within)) (c.loop-first.invariant.begun bytes long)
+    pieces_done c.args.volume.now.geometry c.requires.geometry c.args.volume.now.order c.args.volume.now.moment bytes long tt c.loop-first.first (g.D.Dev.outside c.args.host.now) (g.D.Dev.outside c.loop-first.host) (omega (arith, c.loop-first-test.false, c.loop-first.invariant.within)) (c.loop-first.invariant.begun bytes long)

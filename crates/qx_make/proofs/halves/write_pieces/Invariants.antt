@@ -10,10 +10,10 @@ use Rattle.qx_make.proofs.halves.write_pieces.Given as goal
 abbrev pub invariant-loop-first : goal.invariant-loop-first
 invariant-loop-first g l = record {
   begun : (bytes : List ℕ) → l.volume.geometry.len4 ≤ length bytes
-      → HasBegun g.D.Dev.tells g.D.Dev.history (blocks_stage l.volume.geometry l.volume.order l.volume.moment bytes)
-      (put_at bytes 0x3000 (flat_map (made_block_bytes l.volume.geometry l.volume.order l.volume.moment) (range_with_len 0 l.first))) l.fn.host l.host;
-  others : LeavesRest g.D.Dev.extent g.D.Dev.attached g.D.Dev.dev_reads g.D.Dev.con_faults l.fn.host l.host;
-  faults : g.D.Dev.dev_faults l.host ≡ g.D.Dev.dev_faults l.fn.host;
+      → HasBegun (blocks_stage l.volume.geometry l.volume.order l.volume.moment bytes)
+      (put_at bytes 0x3000 (flat_map (made_block_bytes l.volume.geometry l.volume.order l.volume.moment) (range_with_len 0 l.first))) (g.D.Dev.outside l.fn.host) (g.D.Dev.outside l.host);
+  others : LeavesRest (g.D.Dev.outside l.fn.host) (g.D.Dev.outside l.host);
+  faults : (g.D.Dev.outside l.host).dev_faults ≡ (g.D.Dev.outside l.fn.host).dev_faults;
   buffer : length l.buffer ≡ 65536;
   within : l.first ≤ l.blocks;
 }

@@ -9,32 +9,32 @@ use Rattle.qx_make.proofs.making.clear_old.Goals as goal
 
 pub returns-in_err-len-clause-stages : goal.returns-in_err-len-clause-stages
 returns-in_err-len-clause-stages g c = λ old.
-    reading_fails g.D.Dev.tells g.D.Dev.history old c.from_residual.result c.args.host.now c.len.new.self c.from_residual.ensures.0 c.len.ensures.step
+    reading_fails old c.from_residual.result (g.D.Dev.outside c.args.host.now) (g.D.Dev.outside c.len.new.self) c.from_residual.ensures.0 c.len.ensures.step
 
 pub returns-in_err-pick-clause-stages : goal.returns-in_err-pick-clause-stages
 returns-in_err-pick-clause-stages g c = λ old.
-    reading_fails g.D.Dev.tells g.D.Dev.history old c.from_residual-in_err-pick.result c.args.host.now c.areas.new.host c.from_residual-in_err-pick.ensures.0
-    (idles_then g.D.Dev.tells g.D.Dev.history c.args.host.now c.len.new.self c.areas.new.host c.len.ensures.step c.areas.ensures.step)
+    reading_fails old c.from_residual-in_err-pick.result (g.D.Dev.outside c.args.host.now) (g.D.Dev.outside c.areas.new.host) c.from_residual-in_err-pick.ensures.0
+    (idles_then (g.D.Dev.outside c.args.host.now) (g.D.Dev.outside c.len.new.self) (g.D.Dev.outside c.areas.new.host) c.len.ensures.step c.areas.ensures.step)
 
 -- the device's length, where it tells
-long : (g : Over) (c : goal.After-zero_places g) → IsTrue (g.D.Dev.tells c.areas.new.host) → c.in_ok-len.len ≡ length (bytes_of (g.D.Dev.history c.areas.new.host))
+long : (g : Over) (c : goal.After-zero_places g) → IsTrue (g.D.Dev.outside c.areas.new.host).tells → c.in_ok-len.len ≡ length (bytes_of (g.D.Dev.outside c.areas.new.host).history)
 long g c told = answered_is _ _ _ _ c.areas.ensures.extent (g.met.D.Dev.extent_is c.areas.new.host told) c.in_ok-len.ensures.value
 
 -- the places that are zeroed are those of its bytes
-places : (g : Over) (c : goal.After-zero_places g) → IsTrue (g.D.Dev.tells c.areas.new.host) → places_of_two c.places_to_zero-one.result.0 c.places_to_zero-one.result.1 ≡ old_places (bytes_of (g.D.Dev.history c.areas.new.host))
+places : (g : Over) (c : goal.After-zero_places g) → IsTrue (g.D.Dev.outside c.areas.new.host).tells → places_of_two c.places_to_zero-one.result.0 c.places_to_zero-one.result.1 ≡ old_places (bytes_of (g.D.Dev.outside c.areas.new.host).history)
 places g c told =
     c.places_to_zero-one.ensures ∙ old_places-read _ _ _ _ _ _ (long g c told) (record { first_bytes = c.in_ok-pick.ensures.first told; second_bytes = c.in_ok-pick.ensures.second told }) c.in_ok-pick.ensures.pick c.active_view-active.ensures
 
 -- so they are zeroed by their stages
-given : (g : Over) (c : goal.After-zero_places g) (old : List ℕ) → IsTrue (g.D.Dev.tells c.areas.new.host) → bytes_of (g.D.Dev.history c.areas.new.host) ≡ old
-    → PerformsAll g.D.Dev.tells g.D.Dev.history old (zeroed old (old_places old)) (old_stages old) c.zero_places.result c.areas.new.host c.zero_places.new.host
+given : (g : Over) (c : goal.After-zero_places g) (old : List ℕ) → IsTrue (g.D.Dev.outside c.areas.new.host).tells → bytes_of (g.D.Dev.outside c.areas.new.host).history ≡ old
+    → PerformsAll old (zeroed old (old_places old)) (old_stages old) c.zero_places.result (g.D.Dev.outside c.areas.new.host) (g.D.Dev.outside c.zero_places.new.host)
 given g c old told is =
-    subst (λ (at : List ℕ). PerformsAll g.D.Dev.tells g.D.Dev.history old (zeroed old at) (zero_stages old at ++ rest_stage (zeroed old at) ∷ []) c.zero_places.result c.areas.new.host c.zero_places.new.host)
+    subst (λ (at : List ℕ). PerformsAll old (zeroed old at) (zero_stages old at ++ rest_stage (zeroed old at) ∷ []) c.zero_places.result (g.D.Dev.outside c.areas.new.host) (g.D.Dev.outside c.zero_places.new.host))
     (places g c told ∙ ap old_places is) (c.zero_places.ensures.stages old (ap length (sym is) ∙ sym (long g c told)))
 
 pub returns-clause-stages : goal.returns-clause-stages
 returns-clause-stages g c = λ old.
     let some = c.zero_places.ensures.stages (replicate c.in_ok-len.len 0) (length-replicate c.in_ok-len.len 0) in
-    then_stages g.D.Dev.tells g.D.Dev.history old (zeroed old (old_places old)) (old_stages old) c.args.host.now c.areas.new.host c.zero_places.new.host
-    (idles_then g.D.Dev.tells g.D.Dev.history c.args.host.now c.len.new.self c.areas.new.host c.len.ensures.step c.areas.ensures.step)
+    then_stages old (zeroed old (old_places old)) (old_stages old) (g.D.Dev.outside c.args.host.now) (g.D.Dev.outside c.areas.new.host) (g.D.Dev.outside c.zero_places.new.host)
+    (idles_then (g.D.Dev.outside c.args.host.now) (g.D.Dev.outside c.len.new.self) (g.D.Dev.outside c.areas.new.host) c.len.ensures.step c.areas.ensures.step)
     some.reaches.before c.zero_places.result (given g c old) some.others

@@ -22,12 +22,12 @@ blocks_long g e order moment bytes long = omega (arith, length-blocks g e order 
 
 pub returns-in_err-put_into_areas-clause-stages : goal.returns-in_err-put_into_areas-clause-stages
 returns-in_err-put_into_areas-clause-stages g c = λ bytes long.
-    clearing_fails c.args.volume.now.geometry c.args.volume.now.order c.args.volume.now.moment bytes g.D.Dev.tells g.D.Dev.history c.put_into_areas.result c.from_residual.result c.args.host.now c.put_into_areas.new.host c.from_residual.ensures.0 (c.put_into_areas.ensures.stage bytes long)
+    clearing_fails c.args.volume.now.geometry c.args.volume.now.order c.args.volume.now.moment bytes c.put_into_areas.result c.from_residual.result (g.D.Dev.outside c.args.host.now) (g.D.Dev.outside c.put_into_areas.new.host) c.from_residual.ensures.0 (c.put_into_areas.ensures.stage bytes long)
 
 pub returns-in_err-write_blocks-clause-stages : goal.returns-in_err-write_blocks-clause-stages
 returns-in_err-write_blocks-clause-stages g c = λ bytes long.
     let v = c.args.volume.now in
-    filling_fails v.geometry v.order v.moment bytes g.D.Dev.tells g.D.Dev.history tt c.write_blocks.result c.from_residual-in_err-write_blocks.result c.args.host.now c.put_into_areas.new.host c.write_blocks.new.host c.from_residual-in_err-write_blocks.ensures.0
+    filling_fails v.geometry v.order v.moment bytes tt c.write_blocks.result c.from_residual-in_err-write_blocks.result (g.D.Dev.outside c.args.host.now) (g.D.Dev.outside c.put_into_areas.new.host) (g.D.Dev.outside c.write_blocks.new.host) c.from_residual-in_err-write_blocks.ensures.0
     (c.in_ok-put_into_areas.ensures.stage bytes long)
     (c.write_blocks.ensures.stage (with_areas v.geometry bytes) (areas_long v.geometry c.requires.geometry bytes long))
 
@@ -36,7 +36,7 @@ returns-clause-stages g c = λ bytes long.
     let v = c.args.volume.now in
     let cleared = areas_long v.geometry c.requires.geometry bytes long in
     let filled = blocks_long v.geometry c.requires.geometry v.order v.moment (with_areas v.geometry bytes) cleared in
-    supers_end v.geometry v.order v.moment bytes g.D.Dev.tells g.D.Dev.history tt tt c.write_supers.result c.args.host.now c.put_into_areas.new.host c.write_blocks.new.host c.write_supers.new.host
+    supers_end v.geometry v.order v.moment bytes tt tt c.write_supers.result (g.D.Dev.outside c.args.host.now) (g.D.Dev.outside c.put_into_areas.new.host) (g.D.Dev.outside c.write_blocks.new.host) (g.D.Dev.outside c.write_supers.new.host)
     (c.in_ok-put_into_areas.ensures.stage bytes long)
     (c.in_ok-write_blocks.ensures.stage (with_areas v.geometry bytes) cleared)
     (c.write_supers.ensures.stage (with_blocks v.geometry v.order v.moment (with_areas v.geometry bytes)) filled)

@@ -20,14 +20,14 @@ unfolding first second end
 returns-in_err-zero_area-clause-stages g c = λ bytes long.
     let one = c.args.one in
     let last = c.args.last in
-    let p = perform_one g.D.Dev.tells g.D.Dev.history (first bytes one last ∷ second bytes one last ∷ end bytes one last ∷ []) (first bytes one last) (second bytes one last) (0, omega arith, refl) (1, omega arith, refl) refl c.zero_area.result c.args.host.now c.zero_area.new.host (c.zero_area.ensures.stage bytes long) in
-    perform_fails g.D.Dev.tells g.D.Dev.history (first bytes one last ∷ second bytes one last ∷ end bytes one last ∷ []) bytes (after_stage (first bytes one last)) (after_stage (second bytes one last)) c.zero_area.result c.from_residual.result c.args.host.now c.zero_area.new.host c.from_residual.ensures.0 p
+    let p = perform_one (first bytes one last ∷ second bytes one last ∷ end bytes one last ∷ []) (first bytes one last) (second bytes one last) (0, omega arith, refl) (1, omega arith, refl) refl c.zero_area.result (g.D.Dev.outside c.args.host.now) (g.D.Dev.outside c.zero_area.new.host) (c.zero_area.ensures.stage bytes long) in
+    perform_fails (first bytes one last ∷ second bytes one last ∷ end bytes one last ∷ []) bytes (after_stage (first bytes one last)) (after_stage (second bytes one last)) c.zero_area.result c.from_residual.result (g.D.Dev.outside c.args.host.now) (g.D.Dev.outside c.zero_area.new.host) c.from_residual.ensures.0 p
 
 pub returns-clause-stages : goal.returns-clause-stages
 unfolding first second end
 returns-clause-stages g c = λ bytes long.
     let one = c.args.one in
     let last = c.args.last in
-    let begun = perform_one g.D.Dev.tells g.D.Dev.history (first bytes one last ∷ second bytes one last ∷ end bytes one last ∷ []) (first bytes one last) (second bytes one last) (0, omega arith, refl) (1, omega arith, refl) refl (Ok tt) c.args.host.now c.zero_area.new.host (c.in_ok-zero_area.ensures.stage bytes long) in
-    let ended = perform_one g.D.Dev.tells g.D.Dev.history (first bytes one last ∷ second bytes one last ∷ end bytes one last ∷ []) (second bytes one last) (end bytes one last) (1, omega arith, refl) (2, omega arith, refl) refl c.zero_area-2.result c.zero_area.new.host c.zero_area-2.new.host (c.zero_area-2.ensures.stage (after_stage (zero_stage bytes one)) (length-zeroed bytes one ∙ long)) in
-    perform_then g.D.Dev.tells g.D.Dev.history (first bytes one last ∷ second bytes one last ∷ end bytes one last ∷ []) bytes (after_stage (first bytes one last)) (after_stage (second bytes one last)) tt c.zero_area-2.result c.args.host.now c.zero_area.new.host c.zero_area-2.new.host begun ended
+    let begun = perform_one (first bytes one last ∷ second bytes one last ∷ end bytes one last ∷ []) (first bytes one last) (second bytes one last) (0, omega arith, refl) (1, omega arith, refl) refl (Ok tt) (g.D.Dev.outside c.args.host.now) (g.D.Dev.outside c.zero_area.new.host) (c.in_ok-zero_area.ensures.stage bytes long) in
+    let ended = perform_one (first bytes one last ∷ second bytes one last ∷ end bytes one last ∷ []) (second bytes one last) (end bytes one last) (1, omega arith, refl) (2, omega arith, refl) refl c.zero_area-2.result (g.D.Dev.outside c.zero_area.new.host) (g.D.Dev.outside c.zero_area-2.new.host) (c.zero_area-2.ensures.stage (after_stage (zero_stage bytes one)) (length-zeroed bytes one ∙ long)) in
+    perform_then (first bytes one last ∷ second bytes one last ∷ end bytes one last ∷ []) bytes (after_stage (first bytes one last)) (after_stage (second bytes one last)) tt c.zero_area-2.result (g.D.Dev.outside c.args.host.now) (g.D.Dev.outside c.zero_area.new.host) (g.D.Dev.outside c.zero_area-2.new.host) begun ended

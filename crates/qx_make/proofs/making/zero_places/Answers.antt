@@ -7,6 +7,6 @@ pub returns-in-None-clause-stages : goal.returns-in-None-clause-stages
 returns-in-None-clause-stages g c = λ bytes long.
     let first = zero_stage bytes c.args.one in
     let end = rest_stage (after_stage (zero_stage bytes c.args.one)) in
-    let p = perform_one g.D.Dev.tells g.D.Dev.history (first ∷ end ∷ []) first end (0, omega arith, refl) (1, omega arith, refl) refl c.zero_area.result c.args.host.now c.zero_area.new.host (c.zero_area.ensures.stage bytes long) in
-    subst (λ (o : Option ℕ). PerformsAll g.D.Dev.tells g.D.Dev.history bytes (zeroed bytes (places_of_two c.args.one o)) (zero_stages bytes (places_of_two c.args.one o) ++ rest_stage (zeroed bytes (places_of_two c.args.one o)) ∷ []) c.zero_area.result c.args.host.now c.zero_area.new.host)
+    let p = perform_one (first ∷ end ∷ []) first end (0, omega arith, refl) (1, omega arith, refl) refl c.zero_area.result (g.D.Dev.outside c.args.host.now) (g.D.Dev.outside c.zero_area.new.host) (c.zero_area.ensures.stage bytes long) in
+    subst (λ (o : Option ℕ). PerformsAll bytes (zeroed bytes (places_of_two c.args.one o)) (zero_stages bytes (places_of_two c.args.one o) ++ rest_stage (zeroed bytes (places_of_two c.args.one o)) ∷ []) c.zero_area.result (g.D.Dev.outside c.args.host.now) (g.D.Dev.outside c.zero_area.new.host))
     (sym c.in-None.is) p

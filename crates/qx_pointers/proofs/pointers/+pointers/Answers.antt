@@ -24,17 +24,17 @@ visit-returns-then-block-eq-ABSENT-clause-sees g t c = λ m s.
 pub visit-returns-then-last-position-clause-sees :
     goal.visit-returns-then-last-position-clause-sees
 visit-returns-then-last-position-clause-sees g t c = λ m s.
-    let span : c.args.position.span ≡ per_block m.size ^ c.args.position.level = c.requires.span ∙ ap (λ z. per_block z ^ c.args.position.level) (sym (shown_size c.args.visitor.now.shape c.args.host.now m s)) in
+    let span : c.args.position.span ≡ per_block m.size ^ c.args.position.level = c.requires.span ∙ ap (λ z. per_block z ^ c.args.position.level) (sym (shown_size c.args.visitor.now.shape (g.D.Dev.outside c.args.host.now) m s)) in
     sees_stray m c.args.visitor.now c.args.last c.args.position.level c.args.position.index c.args.block c.nothing-then-last-position.result c.args.met.now c.args.leaves.now.items c.if-block-eq-ABSENT.false
     (subst (λ z. c.args.last ≤ c.args.position.index * z) span c.if-last-position.true) c.nothing-then-last-position.ensures
 
 pub visit-returns-in_err-mark-clause-sees : goal.visit-returns-in_err-mark-clause-sees
 visit-returns-in_err-mark-clause-sees g t c = λ m s.
-    let span : c.args.position.span ≡ per_block m.size ^ c.args.position.level = c.requires.span ∙ ap (λ z. per_block z ^ c.args.position.level) (sym (shown_size c.args.visitor.now.shape c.args.host.now m s)) in
+    let span : c.args.position.span ≡ per_block m.size ^ c.args.position.level = c.requires.span ∙ ap (λ z. per_block z ^ c.args.position.level) (sym (shown_size c.args.visitor.now.shape (g.D.Dev.outside c.args.host.now) m s)) in
     let p = err_from_is_err_and c.from_residual.result c.from_residual.ensures.1 in
     rw (p.1, p.2) (sees_unmarked m c.args.visitor.now c.args.last c.args.position.level c.args.position.index c.args.block c.in_err-mark.field-0.0 c.args.met.now c.mark.new.met c.args.leaves.now.items c.if-block-eq-ABSENT.false
     (subst (λ z. c.args.position.index * z < c.args.last) span c.if-last-position.false)
-    (subst (λ z. GoesThrough {T = Unit {0}} (pointer_tests c.args.visitor.now.inode z c.args.block) (Err c.in_err-mark.field-0.0) c.args.met.now c.mark.new.met) (sym (shown_count c.args.visitor.now.shape c.args.host.now m s)) c.in_err-mark.ensures.tests))
+    (subst (λ z. GoesThrough {T = Unit {0}} (pointer_tests c.args.visitor.now.inode z c.args.block) (Err c.in_err-mark.field-0.0) c.args.met.now c.mark.new.met) (sym (shown_count c.args.visitor.now.shape (g.D.Dev.outside c.args.host.now) m s)) c.in_err-mark.ensures.tests))
 
 pub visit-overflow_mul-first : goal.visit-overflow_mul-first
 visit-overflow_mul-first g t c =
@@ -53,8 +53,8 @@ visit-visit_each-requires g t c κs within =
 pub visit-returns-in_err-below-clause-sees : goal.visit-returns-in_err-below-clause-sees
 visit-returns-in_err-below-clause-sees g t c = λ m s.
     let shape = c.args.visitor.now.shape in
-    let size : m.size ≡ shape.blocksize = shown_size shape c.visit_each.new.host m s in
-    let count : m.count ≡ shape.count = shown_count shape c.visit_each.new.host m s in
+    let size : m.size ≡ shape.blocksize = shown_size shape (g.D.Dev.outside c.visit_each.new.host) m s in
+    let count : m.count ≡ shape.count = shown_count shape (g.D.Dev.outside c.visit_each.new.host) m s in
     let span : c.args.position.span ≡ per_block m.size ^ c.args.position.level = c.requires.span ∙ ap (λ z. per_block z ^ c.args.position.level) (sym size) in
     let p = err_from_is_err_and c.from_residual-in_err-below.result c.from_residual-in_err-below.ensures.1 in
     rw (p.1, p.2) (sees_block_halts m c.args.visitor.now c.args.last c.args.position.level (c.args.position.level - 1) c.args.position.index c.args.block (c.args.position.index * c.from-2.result) c.read_pointers.new.into c.in_err-below.field-0.0 c.args.met.now c.mark.new.met c.visit_each.new.met c.args.leaves.now.items c.visit_each.new.leaves.items
@@ -62,22 +62,22 @@ visit-returns-in_err-below-clause-sees g t c = λ m s.
     (subst (λ z. c.args.position.index * z < c.args.last) span c.if-last-position.false)
     (subst (λ z. c.args.block < z) (sym count) c.in_ok-mark.ensures.below)
     (ap (λ z. c.args.position.index * z) (c.from-2.ensures ∙ ap per_block (sym size)))
-    (subst (λ z. c.read_pointers.new.into ≡ each_below (per_block z) (λ w. word m c.args.block w)) (sym size) (c.in_ok-read_pointers.ensures.pointers m (shows_before shape c.read_pointers.new.host c.visit_each.new.host m c.visit_each.ensures.reads s)))
+    (subst (λ z. c.read_pointers.new.into ≡ each_below (per_block z) (λ w. word m c.args.block w)) (sym size) (c.in_ok-read_pointers.ensures.pointers m (shows_before shape (g.D.Dev.outside c.read_pointers.new.host) (g.D.Dev.outside c.visit_each.new.host) m c.visit_each.ensures.reads s)))
     (subst (λ z. GoesThrough {T = Unit {0}} (pointer_tests c.args.visitor.now.inode z c.args.block) (Ok tt) c.args.met.now c.mark.new.met) (sym count) c.in_ok-mark.ensures.tests)
     (c.in_err-below.ensures.sees m s))
 
 pub visit-returns-then-below-eq0-clause-sees : goal.visit-returns-then-below-eq0-clause-sees
 visit-returns-then-below-eq0-clause-sees g t c = λ m s.
     let shape = c.args.visitor.now.shape in
-    let size : m.size ≡ shape.blocksize = shown_size shape c.visit_each.new.host m s in
-    let count : m.count ≡ shape.count = shown_count shape c.visit_each.new.host m s in
+    let size : m.size ≡ shape.blocksize = shown_size shape (g.D.Dev.outside c.visit_each.new.host) m s in
+    let count : m.count ≡ shape.count = shown_count shape (g.D.Dev.outside c.visit_each.new.host) m s in
     let span : c.args.position.span ≡ per_block m.size ^ c.args.position.level = c.requires.span ∙ ap (λ z. per_block z ^ c.args.position.level) (sym size) in
     sees_block m c.args.visitor.now c.args.last c.args.position.level (c.args.position.level - 1) c.args.position.index c.args.block (c.args.position.index * c.from-2.result) c.read_pointers.new.into c.in_ok-below.below (nat_eq c.in_ok-below.below.leaves 0) c.args.met.now c.mark.new.met c.visit_each.new.met c.args.leaves.now.items c.visit_each.new.leaves.items
     c.if-position-eq0.false refl c.if-block-eq-ABSENT.false
     (subst (λ z. c.args.position.index * z < c.args.last) span c.if-last-position.false)
     (subst (λ z. c.args.block < z) (sym count) c.in_ok-mark.ensures.below)
     (ap (λ z. c.args.position.index * z) (c.from-2.ensures ∙ ap per_block (sym size)))
-    (subst (λ z. c.read_pointers.new.into ≡ each_below (per_block z) (λ w. word m c.args.block w)) (sym size) (c.in_ok-read_pointers.ensures.pointers m (shows_before shape c.read_pointers.new.host c.visit_each.new.host m c.visit_each.ensures.reads s)))
+    (subst (λ z. c.read_pointers.new.into ≡ each_below (per_block z) (λ w. word m c.args.block w)) (sym size) (c.in_ok-read_pointers.ensures.pointers m (shows_before shape (g.D.Dev.outside c.read_pointers.new.host) (g.D.Dev.outside c.visit_each.new.host) m c.visit_each.ensures.reads s)))
     (subst (λ z. GoesThrough {T = Unit {0}} (pointer_tests c.args.visitor.now.inode z c.args.block) (Ok tt) c.args.met.now c.mark.new.met) (sym count) c.in_ok-mark.ensures.tests)
     (c.in_ok-below.ensures.sees m s)
     (let e : nat_eq c.in_ok-below.below.leaves 0 ≡ true = eq-eqb c.in_ok-below.below.leaves 0 c.if-below-eq0.true in e ∙ sym (ap (λ b. b || c.in_ok-below.below.bare) e))
@@ -85,15 +85,15 @@ visit-returns-then-below-eq0-clause-sees g t c = λ m s.
 pub visit-returns-else-below-eq0-clause-sees : goal.visit-returns-else-below-eq0-clause-sees
 visit-returns-else-below-eq0-clause-sees g t c = λ m s.
     let shape = c.args.visitor.now.shape in
-    let size : m.size ≡ shape.blocksize = shown_size shape c.visit_each.new.host m s in
-    let count : m.count ≡ shape.count = shown_count shape c.visit_each.new.host m s in
+    let size : m.size ≡ shape.blocksize = shown_size shape (g.D.Dev.outside c.visit_each.new.host) m s in
+    let count : m.count ≡ shape.count = shown_count shape (g.D.Dev.outside c.visit_each.new.host) m s in
     let span : c.args.position.span ≡ per_block m.size ^ c.args.position.level = c.requires.span ∙ ap (λ z. per_block z ^ c.args.position.level) (sym size) in
     sees_block m c.args.visitor.now c.args.last c.args.position.level (c.args.position.level - 1) c.args.position.index c.args.block (c.args.position.index * c.from-2.result) c.read_pointers.new.into c.in_ok-below.below c.in_ok-below.below.bare c.args.met.now c.mark.new.met c.visit_each.new.met c.args.leaves.now.items c.visit_each.new.leaves.items
     c.if-position-eq0.false refl c.if-block-eq-ABSENT.false
     (subst (λ z. c.args.position.index * z < c.args.last) span c.if-last-position.false)
     (subst (λ z. c.args.block < z) (sym count) c.in_ok-mark.ensures.below)
     (ap (λ z. c.args.position.index * z) (c.from-2.ensures ∙ ap per_block (sym size)))
-    (subst (λ z. c.read_pointers.new.into ≡ each_below (per_block z) (λ w. word m c.args.block w)) (sym size) (c.in_ok-read_pointers.ensures.pointers m (shows_before shape c.read_pointers.new.host c.visit_each.new.host m c.visit_each.ensures.reads s)))
+    (subst (λ z. c.read_pointers.new.into ≡ each_below (per_block z) (λ w. word m c.args.block w)) (sym size) (c.in_ok-read_pointers.ensures.pointers m (shows_before shape (g.D.Dev.outside c.read_pointers.new.host) (g.D.Dev.outside c.visit_each.new.host) m c.visit_each.ensures.reads s)))
     (subst (λ z. GoesThrough {T = Unit {0}} (pointer_tests c.args.visitor.now.inode z c.args.block) (Ok tt) c.args.met.now c.mark.new.met) (sym count) c.in_ok-mark.ensures.tests)
     (c.in_ok-below.ensures.sees m s)
     (sym (ap (λ b. b || c.in_ok-below.below.bare) (not_so (nat_eq c.in_ok-below.below.leaves 0) (λ t'. c.if-below-eq0.false (eqb-true c.in_ok-below.below.leaves 0 t')))))
@@ -108,7 +108,7 @@ visit_each-returns-in_err-part-clause-sees g t c = λ m s.
     let p = err_from_is_err_and c.from_residual.result c.from_residual.ensures.1 in
     rw (p.1, p.2) (sees_next_halts m c.args.visitor.now c.args.last c.args.first.level c.args.first.index c.args.blocks.now c.loop-place.place (length c.args.blocks.now) _ _ _ _ _ c.loop-place.all c.in_err-part.field-0.0 c.args.met.now c.loop-place.met c.visit.new.met c.args.leaves.now.items c.loop-place.leaves.items c.visit.new.leaves.items
     c.loop-place-test.true (sym (get_or_default_zero c.args.blocks.now c.loop-place.place absent c.loop-place-test.true))
-    (c.loop-place.invariant.sees m (shows_before c.args.visitor.now.shape c.loop-place.host c.visit.new.host m c.visit.ensures.reads s)) (c.in_err-part.ensures.sees m s))
+    (c.loop-place.invariant.sees m (shows_before c.args.visitor.now.shape (g.D.Dev.outside c.loop-place.host) (g.D.Dev.outside c.visit.new.host) m c.visit.ensures.reads s)) (c.in_err-part.ensures.sees m s))
 
 pub visit_each-loop-place-preserved : goal.visit_each-loop-place-preserved
 visit_each-loop-place-preserved g t c =
@@ -123,13 +123,13 @@ visit_each-loop-place-preserved g t c =
           (subst (λ z. Sees m visitor last (visits_beside m last level first blocks (suc place)) (strays_beside m last level first blocks (suc place)) (bare_beside m last level first blocks (suc place)) (Ok z) c.args.met.now c.visit.new.met c.args.leaves.now.items c.visit.new.leaves.items) (sym c.joined-all.ensures)
           (sees_next m visitor last level first blocks place _ c.loop-place.all c.in_ok-part.part c.args.met.now c.loop-place.met c.visit.new.met c.args.leaves.now.items c.loop-place.leaves.items c.visit.new.leaves.items
           (sym (get_or_default_zero blocks place absent c.loop-place-test.true))
-          (c.loop-place.invariant.sees m (shows_before visitor.shape c.loop-place.host c.visit.new.host m c.visit.ensures.reads s)) (c.in_ok-part.ensures.sees m s)));
+          (c.loop-place.invariant.sees m (shows_before visitor.shape (g.D.Dev.outside c.loop-place.host) (g.D.Dev.outside c.visit.new.host) m c.visit.ensures.reads s)) (c.in_ok-part.ensures.sees m s)));
       few = few_more place c.args.first.span c.loop-place.all.leaves c.in_ok-part.part.leaves c.joined-all.result.leaves c.loop-place.invariant.few c.in_ok-part.ensures.few (ap (λ (z : Part). z.leaves) c.joined-all.ensures);
       placed = c.in_ok-part.ensures.placed;
       end = subst (λ (z : Part). IfSome z.end (λ block. block < visitor.shape.count)) (sym c.joined-all.ensures) (or_some c.loop-place.all.end c.in_ok-part.part.end (λ block. block < visitor.shape.count) c.loop-place.invariant.end c.in_ok-part.ensures.end);
       limit = c.visit.ensures.limit ∙ c.loop-place.invariant.limit;
       fits = c.visit.ensures.fits;
-      reads = reads_then c.args.host.now c.loop-place.host c.visit.new.host c.loop-place.invariant.reads c.visit.ensures.reads;
+      reads = reads_then (g.D.Dev.outside c.args.host.now) (g.D.Dev.outside c.loop-place.host) (g.D.Dev.outside c.visit.new.host) c.loop-place.invariant.reads c.visit.ensures.reads;
       faults = search (rules, c.visit.ensures.cause.kept, c.loop-place.invariant.faults);
     }
 

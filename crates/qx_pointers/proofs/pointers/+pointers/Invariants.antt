@@ -17,13 +17,13 @@ decreases-visit_each g l = 2 * l.first.level + 1
 -- the pointers so far were gone through
 abbrev pub invariant-visit_each-loop-place : goal.invariant-visit_each-loop-place
 invariant-visit_each-loop-place g l = record {
-  sees : (m : BlockMap) → Shows g.D.Dev.tells g.D.Dev.history l.visitor.shape l.host m
+  sees : (m : BlockMap) → Shows l.visitor.shape (g.D.Dev.outside l.host) m
       → Sees m l.visitor l.last (visits_beside m l.last l.first.level l.first.index l.blocks l.place) (strays_beside m l.last l.first.level l.first.index l.blocks l.place) (bare_beside m l.last l.first.level l.first.index l.blocks l.place) (Ok l.all) l.fn.met l.met l.fn.leaves.items l.leaves.items;
   few : l.all.leaves ≤ l.place * l.first.span;
   placed : All (IsLeafOf l.visitor.shape.count l.last) l.leaves.items;
   end : IfSome l.all.end (λ block. block < l.visitor.shape.count);
   limit : limit_of l.met ≡ limit_of l.fn.met;
-  fits : Fits g.D.Dev.extent l.visitor.shape l.host;
-  reads : JustReads g.D.Dev.tells g.D.Dev.history g.D.Dev.attached g.D.Dev.con_faults l.fn.host l.host;
-  faults : g.D.Dev.dev_faults l.host ≡ g.D.Dev.dev_faults l.fn.host;
+  fits : Fits l.visitor.shape (g.D.Dev.outside l.host);
+  reads : JustReads (g.D.Dev.outside l.fn.host) (g.D.Dev.outside l.host);
+  faults : (g.D.Dev.outside l.host).dev_faults ≡ (g.D.Dev.outside l.fn.host).dev_faults;
 }

@@ -10,7 +10,7 @@ use Rattle.qx_super.proofs.reading.areas.Given.{Over}
 use Rattle.qx_super.proofs.reading.areas.Goals as goal
 
 -- where the device tells, its length is the one that was given
-long : (g : Over) (c : goal.After-pick g) → IsTrue (g.D.Dev.tells c.read_area-2.new.host) → c.args.len ≡ length (bytes_of (g.D.Dev.history c.read_area-2.new.host))
+long : (g : Over) (c : goal.After-pick g) → IsTrue (g.D.Dev.outside c.read_area-2.new.host).tells → c.args.len ≡ length (bytes_of (g.D.Dev.outside c.read_area-2.new.host).history)
 long g c told = len_is _ _ _ _ _ c.read_area.ensures.extent c.read_area-2.ensures.extent (g.met.D.Dev.extent_is c.read_area-2.new.host told) c.requires.len
 
 -- the place is the one that the first area names
@@ -25,11 +25,11 @@ picked g c =
     ∙ ap (λ s. pick_of (first_read c.read_area.new.into c.args.len) s) (c.as_ref-3.ensures.value ∙ c.second_in-second_super.ensures ∙ ap (λ p. option_and_then (λ at. only_at at (result_ok (superblock_of c.read_area-2.new.into c.args.len))) p) (searched g c))
 
 -- where the device tells, the buffers are what it has
-read : (g : Over) (c : goal.After-pick g) → IsTrue (g.D.Dev.tells c.read_area-2.new.host) → AreRead (bytes_of (g.D.Dev.history c.read_area-2.new.host)) c.read_area.new.into c.read_area-2.new.into
+read : (g : Over) (c : goal.After-pick g) → IsTrue (g.D.Dev.outside c.read_area-2.new.host).tells → AreRead (bytes_of (g.D.Dev.outside c.read_area-2.new.host).history) c.read_area.new.into c.read_area-2.new.into
 read g c told =
-    let firsts : c.read_area.new.into ≡ buffer_of (first_area (bytes_of (g.D.Dev.history c.read_area-2.new.host))) =
+    let firsts : c.read_area.new.into ≡ buffer_of (first_area (bytes_of (g.D.Dev.outside c.read_area-2.new.host).history)) =
     c.in_ok-read_area.ensures.bytes (c.read_area-2.ensures.step.before told) ∙ ap (λ h. buffer_of (first_area (bytes_of h))) (sym (c.read_area-2.ensures.step.step told)) in
-    are_read (bytes_of (g.D.Dev.history c.read_area-2.new.host)) _ _ c.args.len c.place_to_search-place.result (long g c told) firsts (searched g c) (c.in_ok-read_area-2.ensures.bytes told)
+    are_read (bytes_of (g.D.Dev.outside c.read_area-2.new.host).history) _ _ c.args.len c.place_to_search-place.result (long g c told) firsts (searched g c) (c.in_ok-read_area-2.ensures.bytes told)
 
 pub returns-clause-active : goal.returns-clause-active
 returns-clause-active g c = λ told. picked g c ∙ pick_of-read_at _ _ _ c.args.len (long g c told) (read g c told)
@@ -38,7 +38,7 @@ pub returns-clause-second : goal.returns-clause-second
 returns-clause-second g c = λ told. (read g c told).second_bytes
 
 pub returns-in_err-read_area-2-clause-reads : goal.returns-in_err-read_area-2-clause-reads
-returns-in_err-read_area-2-clause-reads g c = reads_then g.D.Dev.dev_reads 1 1 2 _ _ _ (omega arith) c.read_area-2.ensures.reads c.read_area.ensures.reads
+returns-in_err-read_area-2-clause-reads g c = reads_then 1 1 2 _ _ _ (omega arith) c.read_area-2.ensures.reads c.read_area.ensures.reads
 
 pub returns-clause-reads : goal.returns-clause-reads
-returns-clause-reads g c = reads_then g.D.Dev.dev_reads 1 1 2 _ _ _ (omega arith) c.read_area-2.ensures.reads c.read_area.ensures.reads
+returns-clause-reads g c = reads_then 1 1 2 _ _ _ (omega arith) c.read_area-2.ensures.reads c.read_area.ensures.reads

@@ -11,18 +11,17 @@ use Rattle.qx_top.proofs.checker.report_verdict.Given.{Over}
 use Rattle.qx_top.proofs.checker.report_verdict.Goals as goal
 
 -- where the checker failed for the device, a device call failed
-failed : (g : Over) (c : goal.After-say-2 g) → c.check.result ≡ Err faults.Device → Rose (g.H.Dev.dev_faults c.args.host.now) (g.H.Dev.dev_faults c.say-2.new.host)
+failed : (g : Over) (c : goal.After-say-2 g) → c.check.result ≡ Err faults.Device → Rose (g.H.Dev.outside c.args.host.now).dev_faults (g.H.Dev.outside c.say-2.new.host).dev_faults
 failed g c is = let rose = c.check.ensures.device is in search rules
 
 pub returns-clause-report : goal.returns-clause-report
 returns-clause-report g c =
-    let d = g.H.Dev in
     let answer = c.check.result in
-    let same : IsTrue (d.tells c.check.new.host) → d.history c.check.new.host ≡ d.history c.args.host.now = λ t. c.check.ensures.reads.same t ∙ c.attach.ensures.step.step (c.check.ensures.reads.before t) in
+    let same : IsTrue (g.H.Dev.outside c.check.new.host).tells → (g.H.Dev.outside c.check.new.host).history ≡ (g.H.Dev.outside c.args.host.now).history = λ t. c.check.ensures.reads.same t ∙ c.attach.ensures.step.step (c.check.ensures.reads.before t) in
     let text = c.as_str.ensures.value ∙ c.report_on_answer-report.ensures.line in
-    let said = subst (λ (text : List ℕ). Says d.tells d.history text (code_of c.report_on_answer-report.result.status) (code_of c.say-2.result) c.check.new.host c.say-2.new.host) text c.say-2.ensures.says in
-    let owed = subst (λ (owed : Status). Says d.tells d.history (report_of_answer answer).text (code_of owed) (code_of c.say-2.result) c.check.new.host c.say-2.new.host) c.report_on_answer-report.ensures.status said in
-    says_answer d.tells d.history d.dev_faults (code_of c.say-2.result) c.args.host.now c.check.new.host c.say-2.new.host
+    let said = subst (λ (text : List ℕ). Says text (code_of c.report_on_answer-report.result.status) (code_of c.say-2.result) (g.H.Dev.outside c.check.new.host) (g.H.Dev.outside c.say-2.new.host)) text c.say-2.ensures.says in
+    let owed = subst (λ (owed : Status). Says (report_of_answer answer).text (code_of owed) (code_of c.say-2.result) (g.H.Dev.outside c.check.new.host) (g.H.Dev.outside c.say-2.new.host)) c.report_on_answer-report.ensures.status said in
+    says_answer (code_of c.say-2.result) (g.H.Dev.outside c.args.host.now) (g.H.Dev.outside c.check.new.host) (g.H.Dev.outside c.say-2.new.host)
     (λ t. c.attach.ensures.step.before (c.check.ensures.reads.before t)) same answer
     (λ t. subst (λ (h : History). SaysVerdict (bytes_of h) answer) (c.attach.ensures.step.step (c.check.ensures.reads.before (c.say-2.ensures.says.before t))) (c.check.ensures.says (c.say-2.ensures.says.before t)))
     (failed g c) owed

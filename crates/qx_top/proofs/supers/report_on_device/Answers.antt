@@ -7,11 +7,11 @@ use Rattle.qx_top.proofs.supers.report_on_device.Given.{Over}
 use Rattle.qx_top.proofs.supers.report_on_device.Goals as goal
 
 -- where the device tells, its length is the one that was answered
-long : (g : Over) (c : goal.After-report_on_buffers g) → IsTrue (g.D.Dev.tells c.areas.new.host) → c.in_ok-len.len ≡ length (bytes_of (g.D.Dev.history c.areas.new.host))
+long : (g : Over) (c : goal.After-report_on_buffers g) → IsTrue (g.D.Dev.outside c.areas.new.host).tells → c.in_ok-len.len ≡ length (bytes_of (g.D.Dev.outside c.areas.new.host).history)
 long g c told = answered_is _ _ _ _ c.areas.ensures.extent (g.met.D.Dev.extent_is c.areas.new.host told) c.in_ok-len.ensures.value
 
 -- where the device tells, what was read gives its report
-reported : (g : Over) (c : goal.After-report_on_buffers g) → IsTrue (g.D.Dev.tells c.areas.new.host) → report_read c.areas.new.first c.areas.new.second c.in_ok-len.len ≡ supers_report (bytes_of (g.D.Dev.history c.areas.new.host))
+reported : (g : Over) (c : goal.After-report_on_buffers g) → IsTrue (g.D.Dev.outside c.areas.new.host).tells → report_read c.areas.new.first c.areas.new.second c.in_ok-len.len ≡ supers_report (bytes_of (g.D.Dev.outside c.areas.new.host).history)
 reported g c told = report_read-is _ _ _ _ (long g c told) (record { first_bytes = c.in_ok-pick.ensures.first told; second_bytes = c.in_ok-pick.ensures.second told })
 
 pub returns-clause-line : goal.returns-clause-line

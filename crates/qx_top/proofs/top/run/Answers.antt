@@ -11,13 +11,11 @@ returns-clause-makes g c = λ image size vol asked is. rw c.code.ensures (c.obey
 
 pub returns-clause-created : goal.returns-clause-created
 returns-clause-created g c = λ image size vol asked is.
-    let d = g.H.Dev in
-    created_alone d.tells d.history d.extent d.attached d.dev_reads d.dev_faults image size vol c.code.result c.args.host c.obey-status.new.host (returns-clause-makes g c image size vol asked is) c.requires.attached
+    created_alone image size vol c.code.result (g.H.Dev.outside c.args.host) (g.H.Dev.outside c.obey-status.new.host) (returns-clause-makes g c image size vol asked is) c.requires.attached
 
 pub returns-clause-made : goal.returns-clause-made
 returns-clause-made g c = λ image size vol asked is no_device no_console.
-    let d = g.H.Dev in
-    ends_well d.tells d.history d.extent d.attached d.dev_reads d.dev_faults image size vol c.code.result c.args.host c.obey-status.new.host (returns-clause-makes g c image size vol asked is)
+    ends_well image size vol c.code.result (g.H.Dev.outside c.args.host) (g.H.Dev.outside c.obey-status.new.host) (returns-clause-makes g c image size vol asked is)
     (λ three. no_device (c.obey-status.ensures.device (sym c.code.ensures ∙ three))) (λ four. no_console (c.obey-status.ensures.console (sym c.code.ensures ∙ four)))
 
 pub returns-clause-refused : goal.returns-clause-refused

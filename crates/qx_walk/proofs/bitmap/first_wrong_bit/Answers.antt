@@ -16,25 +16,25 @@ first_wrong_in_leaf-requires-clause-block g c = let v = IsGeometry-keeps c.args.
 
 pub returns-in-Some-clause-bit : goal.returns-in-Some-clause-bit
 returns-in-Some-clause-bit g c = λ m shows.
-    let size : m.size ≡ c.args.shape.blocksize = shown_size c.args.shape c.first_wrong_in_leaf.new.host m shows in
+    let size : m.size ≡ c.args.shape.blocksize = shown_size c.args.shape (g.D.Dev.outside c.first_wrong_in_leaf.new.host) m shows in
     let begin : ℕ = c.from.result * c.from-in-loop-leaf.result in
     leaf_wrong m c.args.geometry.now c.args.which c.args.met.now c.loop-leaf.leaf (c.first_of_half-first.result + c.loop-leaf.leaf) (c.from.result * c.from-in-loop-leaf.result)
     (record { stands = ap (λ n. n + c.loop-leaf.leaf) c.first_of_half-first.ensures.first; first = λ i. c.from.ensures i * (c.from-in-loop-leaf.ensures ∙ sym size) i }) c.args.geometry.now.bitmap_leaves c.in-Some.at c.loop-leaf-test.true
-    (c.loop-leaf.invariant.bits m (shows_before c.args.shape c.loop-leaf.host c.first_wrong_in_leaf.new.host m c.first_wrong_in_leaf.ensures.reads shows))
+    (c.loop-leaf.invariant.bits m (shows_before c.args.shape (g.D.Dev.outside c.loop-leaf.host) (g.D.Dev.outside c.first_wrong_in_leaf.new.host) m c.first_wrong_in_leaf.ensures.reads shows))
     (subst (λ n. IsFirst (is_wrong_in c.args.geometry.now c.args.met.now begin (m.bytes (c.first_of_half-first.result + c.loop-leaf.leaf))) (begin * 8) ((begin + n) * 8) (Some c.in-Some.at)) (sym size)
     (subst (λ o. IsFirst (is_wrong_in c.args.geometry.now c.args.met.now begin (m.bytes (c.first_of_half-first.result + c.loop-leaf.leaf))) (begin * 8) ((begin + c.args.shape.blocksize) * 8) o) c.in-Some.is (c.in_ok-at.ensures.bit m shows)))
 
 pub loop-leaf-preserved : goal.loop-leaf-preserved
 loop-leaf-preserved g c = record {
-  reads = reads_then c.args.host.now c.loop-leaf.host c.first_wrong_in_leaf.new.host c.loop-leaf.invariant.reads c.first_wrong_in_leaf.ensures.reads;
+  reads = reads_then (g.D.Dev.outside c.args.host.now) (g.D.Dev.outside c.loop-leaf.host) (g.D.Dev.outside c.first_wrong_in_leaf.new.host) c.loop-leaf.invariant.reads c.first_wrong_in_leaf.ensures.reads;
   fits = c.first_wrong_in_leaf.ensures.fits;
   faults = search (rules, c.first_wrong_in_leaf.ensures.cause.kept, c.loop-leaf.invariant.faults);
   bits = λ m shows.
-      let size : m.size ≡ c.args.shape.blocksize = shown_size c.args.shape c.first_wrong_in_leaf.new.host m shows in
+      let size : m.size ≡ c.args.shape.blocksize = shown_size c.args.shape (g.D.Dev.outside c.first_wrong_in_leaf.new.host) m shows in
       let begin : ℕ = c.from.result * c.from-in-loop-leaf.result in
       leaf_right m c.args.geometry.now c.args.which c.args.met.now c.loop-leaf.leaf (c.first_of_half-first.result + c.loop-leaf.leaf) (c.from.result * c.from-in-loop-leaf.result)
       (record { stands = ap (λ n. n + c.loop-leaf.leaf) c.first_of_half-first.ensures.first; first = λ i. c.from.ensures i * (c.from-in-loop-leaf.ensures ∙ sym size) i })
-      (c.loop-leaf.invariant.bits m (shows_before c.args.shape c.loop-leaf.host c.first_wrong_in_leaf.new.host m c.first_wrong_in_leaf.ensures.reads shows))
+      (c.loop-leaf.invariant.bits m (shows_before c.args.shape (g.D.Dev.outside c.loop-leaf.host) (g.D.Dev.outside c.first_wrong_in_leaf.new.host) m c.first_wrong_in_leaf.ensures.reads shows))
       (subst (λ n. IsFirst (is_wrong_in c.args.geometry.now c.args.met.now begin (m.bytes (c.first_of_half-first.result + c.loop-leaf.leaf))) (begin * 8) ((begin + n) * 8) None) (sym size)
       (subst (λ o. IsFirst (is_wrong_in c.args.geometry.now c.args.met.now begin (m.bytes (c.first_of_half-first.result + c.loop-leaf.leaf))) (begin * 8) ((begin + c.args.shape.blocksize) * 8) o) c.in_default.is (c.in_ok-at.ensures.bit m shows)));
 }

@@ -6,8 +6,8 @@ use Rattle.qx_walk.proofs.bitmap.first_wrong_bit.Given as goal
 
 abbrev pub invariant-loop-leaf : goal.invariant-loop-leaf
 invariant-loop-leaf g l = record {
-  reads : JustReads g.D.Dev.tells g.D.Dev.history g.D.Dev.attached g.D.Dev.con_faults l.fn.host l.host;
-  fits : Fits g.D.Dev.extent l.shape l.host;
-  faults : g.D.Dev.dev_faults l.host ≡ g.D.Dev.dev_faults l.fn.host;
-  bits : (m : BlockMap) → Shows g.D.Dev.tells g.D.Dev.history l.shape l.host m → (b : ℕ) → b < l.leaf * m.size * 8 → is_wrong_bit m l.geometry l.fn.which l.met b ≡ false;
+  reads : JustReads (g.D.Dev.outside l.fn.host) (g.D.Dev.outside l.host);
+  fits : Fits l.shape (g.D.Dev.outside l.host);
+  faults : (g.D.Dev.outside l.host).dev_faults ≡ (g.D.Dev.outside l.fn.host).dev_faults;
+  bits : (m : BlockMap) → Shows l.shape (g.D.Dev.outside l.host) m → (b : ℕ) → b < l.leaf * m.size * 8 → is_wrong_bit m l.geometry l.fn.which l.met b ≡ false;
 }

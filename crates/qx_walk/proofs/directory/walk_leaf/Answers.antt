@@ -26,7 +26,7 @@ loop-place-init g c = record {
   listing = c.requires.listing;
   next = refl;
   fits = c.read_block.ensures.fits;
-  reads = reads_none c.read_block.new.host;
+  reads = reads_none (g.D.Dev.outside c.read_block.new.host);
   faults = search rules;
 }
 
@@ -39,7 +39,7 @@ loop-place-preserved g c =
     record {
       walked = λ m r kept s i h at.
           let size : m.size ≡ shape.blocksize = shown_size shape _ m s in
-          let before = shows_before shape c.loop-place.host c.walk_record.new.host m c.walk_record.ensures.reads s in
+          let before = shows_before shape (g.D.Dev.outside c.loop-place.host) (g.D.Dev.outside c.walk_record.new.host) m c.walk_record.ensures.reads s in
           let low : place < shape.blocksize / 32 = omega (arith, c.loop-place-test.true, c.records_below-place-end.ensures) in
           let first = c.loop-place.invariant.walked m r kept before i h at in
           range_more m r d (index * (m.size / 32)) place kept 0 (Ok 0) c.loop-place.seen c.walk_record.new.seen first
@@ -47,14 +47,14 @@ loop-place-preserved g c =
           (leaf_one m r d index c.args.leaf.block place shape.order c.read_block.new.into (raw_of_slot c.slot_at-slot.result) _ (Ok tt) c.walk_record.new.seen
           (subst (λ z. z % 32 ≡ 0) (sym size) (block_sizes shape.blocksize shape.sized).0) at (subst (λ z. place < z / 32) (sym size) low)
           (sym (ap (λ (b : BlockMap). b.order) s.is))
-          (c.in_ok-read_block.ensures.bytes m (shows_before shape c.read_block.new.host c.loop-place.host m c.loop-place.invariant.reads before))
+          (c.in_ok-read_block.ensures.bytes m (shows_before shape (g.D.Dev.outside c.read_block.new.host) (g.D.Dev.outside c.loop-place.host) m c.loop-place.invariant.reads before))
           c.slot_at-slot.ensures.said
           (c.in_ok-walk_record.ensures.walked m r _ s i first.holds)));
       inside = c.walk_record.ensures.inside;
       listing = c.walk_record.ensures.listing;
       next = c.walk_record.ensures.next ∙ c.loop-place.invariant.next;
       fits = c.walk_record.ensures.fits;
-      reads = reads_then c.read_block.new.host c.loop-place.host c.walk_record.new.host c.loop-place.invariant.reads c.walk_record.ensures.reads;
+      reads = reads_then (g.D.Dev.outside c.read_block.new.host) (g.D.Dev.outside c.loop-place.host) (g.D.Dev.outside c.walk_record.new.host) c.loop-place.invariant.reads c.walk_record.ensures.reads;
       faults = search (rules, c.walk_record.ensures.cause.kept, c.loop-place.invariant.faults);
     }
 
@@ -65,7 +65,7 @@ returns-in_err-walk_record-clause-walked g c = λ m r kept s i h at.
     let index : ℕ = c.args.leaf.index in
     let place : ℕ = c.loop-place.place in
     let size : m.size ≡ shape.blocksize = shown_size shape _ m s in
-    let before = shows_before shape c.loop-place.host c.walk_record.new.host m c.walk_record.ensures.reads s in
+    let before = shows_before shape (g.D.Dev.outside c.loop-place.host) (g.D.Dev.outside c.walk_record.new.host) m c.walk_record.ensures.reads s in
     let low : place < shape.blocksize / 32 = omega (arith, c.loop-place-test.true, c.records_below-place-end.ensures) in
     let below : place < count_at d.node.size index m.size = subst (λ z. place < count_at d.node.size index z) (sym size) (subst (λ z. place < z) c.records_below-place-end.ensures c.loop-place-test.true) in
     let first = c.loop-place.invariant.walked m r kept before i h at in
@@ -74,14 +74,14 @@ returns-in_err-walk_record-clause-walked g c = λ m r kept s i h at.
     (leaf_one m r d index c.args.leaf.block place shape.order c.read_block.new.into (raw_of_slot c.slot_at-slot.result) _ (Err c.in_err-walk_record.field-0.0) c.walk_record.new.seen
     (subst (λ z. z % 32 ≡ 0) (sym size) (block_sizes shape.blocksize shape.sized).0) at (subst (λ z. place < z / 32) (sym size) low)
     (sym (ap (λ (b : BlockMap). b.order) s.is))
-    (c.in_ok-read_block.ensures.bytes m (shows_before shape c.read_block.new.host c.loop-place.host m c.loop-place.invariant.reads before))
+    (c.in_ok-read_block.ensures.bytes m (shows_before shape (g.D.Dev.outside c.read_block.new.host) (g.D.Dev.outside c.loop-place.host) m c.loop-place.invariant.reads before))
     c.slot_at-slot.ensures.said
     (c.in_err-walk_record.ensures.walked m r _ s i first.holds)))
 
 pub returns-in_err-walk_record-clause-reads : goal.returns-in_err-walk_record-clause-reads
 returns-in_err-walk_record-clause-reads g c =
-    reads_then c.args.host.now c.read_block.new.host c.walk_record.new.host c.read_block.ensures.reads
-    (reads_then c.read_block.new.host c.loop-place.host c.walk_record.new.host c.loop-place.invariant.reads c.walk_record.ensures.reads)
+    reads_then (g.D.Dev.outside c.args.host.now) (g.D.Dev.outside c.read_block.new.host) (g.D.Dev.outside c.walk_record.new.host) c.read_block.ensures.reads
+    (reads_then (g.D.Dev.outside c.read_block.new.host) (g.D.Dev.outside c.loop-place.host) (g.D.Dev.outside c.walk_record.new.host) c.loop-place.invariant.reads c.walk_record.ensures.reads)
 
 pub returns-in_err-walk_record-clause-cause : goal.returns-in_err-walk_record-clause-cause
 returns-in_err-walk_record-clause-cause g c =
@@ -108,7 +108,7 @@ returns-clause-dots g c = λ m s at front.
     c.begins_with_dots.ensures
     ∙ leaf_dots m c.args.directory.now.node c.args.leaf.index c.args.leaf.block shape.order c.read_block.new.into (subst (λ z. z % 32 ≡ 0) (sym size) sizes.0) (subst (λ z. 64 ≤ z) (sym size) long) at front
     (sym (ap (λ (b : BlockMap). b.order) s.is))
-    (c.in_ok-read_block.ensures.bytes m (shows_before shape c.read_block.new.host c.loop-place.host m c.loop-place.invariant.reads s))
+    (c.in_ok-read_block.ensures.bytes m (shows_before shape (g.D.Dev.outside c.read_block.new.host) (g.D.Dev.outside c.loop-place.host) m c.loop-place.invariant.reads s))
 
 pub returns-clause-inside : goal.returns-clause-inside
 returns-clause-inside g c = c.loop-place.invariant.inside
@@ -120,7 +120,7 @@ pub returns-clause-fits : goal.returns-clause-fits
 returns-clause-fits g c = c.loop-place.invariant.fits
 
 pub returns-clause-reads : goal.returns-clause-reads
-returns-clause-reads g c = reads_then c.args.host.now c.read_block.new.host c.loop-place.host c.read_block.ensures.reads c.loop-place.invariant.reads
+returns-clause-reads g c = reads_then (g.D.Dev.outside c.args.host.now) (g.D.Dev.outside c.read_block.new.host) (g.D.Dev.outside c.loop-place.host) c.read_block.ensures.reads c.loop-place.invariant.reads
 
 pub returns-clause-cause : goal.returns-clause-cause
 returns-clause-cause g c = caused_none _ _ c.begins_with_dots.result (c.loop-place.invariant.faults ∙ c.in_ok-read_block.ensures.cause.kept)

@@ -13,13 +13,13 @@ use Rattle.qx_walk.proofs.directory.walk_leaf.Given as goal
 -- the records so far were gone through
 abbrev pub invariant-loop-place : goal.invariant-loop-place
 invariant-loop-place g l = record {
-  walked : (m : BlockMap) (r : Roots) (kept : Kept) → Shows g.D.Dev.tells g.D.Dev.history l.ground.shape l.host m
+  walked : (m : BlockMap) (r : Roots) (kept : Kept) → Shows l.ground.shape (g.D.Dev.outside l.host) m
       → HoldsInodes m r.inodes l.ground.table → Holds m r.longfile kept l.fn.seen → leaf_of m l.directory.node l.fn.leaf.index ≡ Block l.fn.leaf.block
       → WalksThrough {T = ℕ} m r l.directory (range_with_len (l.fn.leaf.index * (m.size / 32)) l.place) kept (Ok 0) l.seen;
   inside : AreInside l.ground.shape.count l.seen.longs;
   listing : IsListing (places_of l.ground.table) l.seen.listing;
   next : l.seen.listing.next ≡ l.fn.seen.listing.next;
-  fits : Fits g.D.Dev.extent l.ground.shape l.host;
-  reads : JustReads g.D.Dev.tells g.D.Dev.history g.D.Dev.attached g.D.Dev.con_faults l.initial.host l.host;
-  faults : g.D.Dev.dev_faults l.host ≡ g.D.Dev.dev_faults l.initial.host;
+  fits : Fits l.ground.shape (g.D.Dev.outside l.host);
+  reads : JustReads (g.D.Dev.outside l.initial.host) (g.D.Dev.outside l.host);
+  faults : (g.D.Dev.outside l.host).dev_faults ≡ (g.D.Dev.outside l.initial.host).dev_faults;
 }

@@ -32,7 +32,7 @@ loop-leaf-init g c = record {
   listing = c.requires.listing;
   next = refl;
   fits = c.requires.fits;
-  reads = reads_none c.args.host.now;
+  reads = reads_none (g.D.Dev.outside c.args.host.now);
   faults = search rules;
 }
 
@@ -48,12 +48,12 @@ loop-leaf-preserved g c =
     record {
       walked = λ m r queue listed numbers s i n l a.
           let at = leaf_listed m d.node leaves leaf (has_room m.size shape.blocksize (shown_size shape _ m s) sizes) a (Contains-get_or leaves k nowhere low) in
-          let first = c.loop-leaf.invariant.walked m r queue listed numbers (shows_before shape c.loop-leaf.host c.walk_leaf.new.host m c.walk_leaf.ensures.reads s) i n l a in
+          let first = c.loop-leaf.invariant.walked m r queue listed numbers (shows_before shape (g.D.Dev.outside c.loop-leaf.host) (g.D.Dev.outside c.walk_leaf.new.host) m c.walk_leaf.ensures.reads s) i n l a in
           leaves_more m r d leaves k leaf (kept_before queue listed numbers) 0 (Ok 0) c.loop-leaf.seen c.walk_leaf.new.seen (take_more leaves k nowhere low) first
           (walks_as m r d _ _ c.in_ok-begins.begins 0 c.walk_leaf.new.seen (c.in_ok-begins.ensures.walked m r _ s i first.holds at));
       dots = λ m p s a there front.
           let at = leaf_listed m d.node leaves leaf (has_room m.size shape.blocksize (shown_size shape _ m s) sizes) a (Contains-get_or leaves k nowhere low) in
-          let earlier : Contains (take k leaves) p → c.loop-leaf.dots ≡ begins_with_dots m d.node = λ before. c.loop-leaf.invariant.dots m p (shows_before shape c.loop-leaf.host c.walk_leaf.new.host m c.walk_leaf.ensures.reads s) a before front in
+          let earlier : Contains (take k leaves) p → c.loop-leaf.dots ≡ begins_with_dots m d.node = λ before. c.loop-leaf.invariant.dots m p (shows_before shape (g.D.Dev.outside c.loop-leaf.host) (g.D.Dev.outside c.walk_leaf.new.host) m c.walk_leaf.ensures.reads s) a before front in
           elim c.if-leaf-eq0.branch [
             | then-leaf-eq0 w ↦ w.dots-is ∙ c.in_ok-begins.ensures.dots m s at w.if-leaf-eq0.true
             | else-leaf-eq0 w ↦
@@ -67,7 +67,7 @@ loop-leaf-preserved g c =
       listing = c.walk_leaf.ensures.listing;
       next = c.walk_leaf.ensures.next ∙ c.loop-leaf.invariant.next;
       fits = c.walk_leaf.ensures.fits;
-      reads = reads_then c.args.host.now c.loop-leaf.host c.walk_leaf.new.host c.loop-leaf.invariant.reads c.walk_leaf.ensures.reads;
+      reads = reads_then (g.D.Dev.outside c.args.host.now) (g.D.Dev.outside c.loop-leaf.host) (g.D.Dev.outside c.walk_leaf.new.host) c.loop-leaf.invariant.reads c.walk_leaf.ensures.reads;
       faults = search (rules, c.walk_leaf.ensures.cause.kept, c.loop-leaf.invariant.faults);
     }
 
@@ -84,7 +84,7 @@ returns-in_err-begins-clause-walked g c = λ m r queue listed numbers s i n l a.
     let room : 0 < per_block m.size = has_room m.size shape.blocksize size sizes in
     let has : HasSize m = record { size = omega (arith, size, sizes); words = room } in
     let at = leaf_listed m d.node leaves leaf room a (Contains-get_or leaves k nowhere low) in
-    let first = c.loop-leaf.invariant.walked m r queue listed numbers (shows_before shape c.loop-leaf.host c.walk_leaf.new.host m c.walk_leaf.ensures.reads s) i n l a in
+    let first = c.loop-leaf.invariant.walked m r queue listed numbers (shows_before shape (g.D.Dev.outside c.loop-leaf.host) (g.D.Dev.outside c.walk_leaf.new.host) m c.walk_leaf.ensures.reads s) i n l a in
     let p = err_from_is_err_and c.from_residual.result c.from_residual.ensures.1 in
     rw (p.1, p.2) (walks_all m r d queue listed numbers (Err c.in_err-begins.field-0.0) c.walk_leaf.new.seen has (subst (λ z. z % 32 ≡ 0) (sym size) sizes.0) a.fits
     (subst (λ ks. WalksThrough {T = Bool} m r d ks (kept_before queue listed numbers) (Err c.in_err-begins.field-0.0) c.walk_leaf.new.seen) (records_present m d.node leaves a)
@@ -93,7 +93,7 @@ returns-in_err-begins-clause-walked g c = λ m r queue listed numbers s i n l a.
     tt)
 
 pub returns-in_err-begins-clause-reads : goal.returns-in_err-begins-clause-reads
-returns-in_err-begins-clause-reads g c = reads_then c.args.host.now c.loop-leaf.host c.walk_leaf.new.host c.loop-leaf.invariant.reads c.walk_leaf.ensures.reads
+returns-in_err-begins-clause-reads g c = reads_then (g.D.Dev.outside c.args.host.now) (g.D.Dev.outside c.loop-leaf.host) (g.D.Dev.outside c.walk_leaf.new.host) c.loop-leaf.invariant.reads c.walk_leaf.ensures.reads
 
 pub returns-in_err-begins-clause-cause : goal.returns-in_err-begins-clause-cause
 returns-in_err-begins-clause-cause g c =

@@ -13,16 +13,16 @@ use Rattle.qx_walk.proofs.directory.walk_records.Given as goal
 -- the records of the leaves so far were gone through
 abbrev pub invariant-loop-leaf : goal.invariant-loop-leaf
 invariant-loop-leaf g l = record {
-  walked : (m : BlockMap) (r : Roots) (queue : List (ℕ × ℕ)) (listed numbers : List ℕ) → Shows g.D.Dev.tells g.D.Dev.history l.ground.shape l.host m
+  walked : (m : BlockMap) (r : Roots) (queue : List (ℕ × ℕ)) (listed numbers : List ℕ) → Shows l.ground.shape (g.D.Dev.outside l.host) m
       → HoldsInodes m r.inodes l.ground.table → HoldsNames m r.longfile numbers l.fn.seen.longs → HasListed queue listed l.fn.seen.listing
       → AreLeaves m l.directory.node l.leaves
       → WalksThrough {T = ℕ} m r l.directory (records_of m l.directory (take l.leaf-index l.leaves)) (kept_before queue listed numbers) (Ok 0) l.seen;
-  dots : (m : BlockMap) (p : LeafPlace) → Shows g.D.Dev.tells g.D.Dev.history l.ground.shape l.host m → AreLeaves m l.directory.node l.leaves
+  dots : (m : BlockMap) (p : LeafPlace) → Shows l.ground.shape (g.D.Dev.outside l.host) m → AreLeaves m l.directory.node l.leaves
       → Contains (take l.leaf-index l.leaves) p → p.index ≡ 0 → l.dots ≡ begins_with_dots m l.directory.node;
   inside : AreInside l.ground.shape.count l.seen.longs;
   listing : IsListing (places_of l.ground.table) l.seen.listing;
   next : l.seen.listing.next ≡ l.fn.seen.listing.next;
-  fits : Fits g.D.Dev.extent l.ground.shape l.host;
-  reads : JustReads g.D.Dev.tells g.D.Dev.history g.D.Dev.attached g.D.Dev.con_faults l.fn.host l.host;
-  faults : g.D.Dev.dev_faults l.host ≡ g.D.Dev.dev_faults l.fn.host;
+  fits : Fits l.ground.shape (g.D.Dev.outside l.host);
+  reads : JustReads (g.D.Dev.outside l.fn.host) (g.D.Dev.outside l.host);
+  faults : (g.D.Dev.outside l.host).dev_faults ≡ (g.D.Dev.outside l.fn.host).dev_faults;
 }

@@ -12,7 +12,7 @@ loop-queued-init g c = record {
   inside = c.requires.inside;
   listing = c.requires.listing;
   fits = c.requires.fits;
-  reads = reads_none c.args.host.now;
+  reads = reads_none (g.D.Dev.outside c.args.host.now);
   faults = search rules;
 }
 
@@ -31,7 +31,7 @@ loop-queued-preserved g c = record {
   inside = c.walk_inode.ensures.inside;
   listing = c.walk_inode.ensures.listing;
   fits = c.walk_inode.ensures.fits;
-  reads = reads_then c.args.host.now c.loop-queued.host c.walk_inode.new.host c.loop-queued.invariant.reads c.walk_inode.ensures.reads;
+  reads = reads_then (g.D.Dev.outside c.args.host.now) (g.D.Dev.outside c.loop-queued.host) (g.D.Dev.outside c.walk_inode.new.host) c.loop-queued.invariant.reads c.walk_inode.ensures.reads;
   faults = search (rules, c.walk_inode.ensures.cause.kept, c.loop-queued.invariant.faults);
 }
 

@@ -11,13 +11,13 @@ use Rattle.qx_walk.proofs.inodes.walk_inodes.Given as goal
 -- the inodes that were taken so far were walked
 abbrev pub invariant-loop-queued : goal.invariant-loop-queued
 invariant-loop-queued g l = record {
-  way : (m : BlockMap) (r : Roots) → Shows g.D.Dev.tells g.D.Dev.history l.ground.shape l.host m → HoldsInodes m r.inodes l.ground.table → Begins m r l.fn.way l.fn.seen → IsOnWay m r l.way l.seen;
+  way : (m : BlockMap) (r : Roots) → Shows l.ground.shape (g.D.Dev.outside l.host) m → HoldsInodes m r.inodes l.ground.table → Begins m r l.fn.way l.fn.seen → IsOnWay m r l.way l.seen;
   limit : limit_of l.way.met ≡ limit_of l.fn.way.met;
   inside : AreInside l.ground.shape.count l.seen.longs;
   listing : IsListing (places_of l.ground.table) l.seen.listing;
-  fits : Fits g.D.Dev.extent l.ground.shape l.host;
-  reads : JustReads g.D.Dev.tells g.D.Dev.history g.D.Dev.attached g.D.Dev.con_faults l.fn.host l.host;
-  faults : g.D.Dev.dev_faults l.host ≡ g.D.Dev.dev_faults l.fn.host;
+  fits : Fits l.ground.shape (g.D.Dev.outside l.host);
+  reads : JustReads (g.D.Dev.outside l.fn.host) (g.D.Dev.outside l.host);
+  faults : (g.D.Dev.outside l.host).dev_faults ≡ (g.D.Dev.outside l.fn.host).dev_faults;
 }
 
 -- the places less the inodes that were taken

@@ -12,29 +12,29 @@ use Rattle.qx_walk.proofs.layout.first_reason.Goals as goal
 pub returns-then-not-branch-clause-reason : goal.returns-then-not-branch-clause-reason
 returns-then-not-branch-clause-reason g c = λ m len shows written is.
     let two : Option Reason = Some (record { reason = 2; at = 0 }) in
-    let count : m.count ≡ c.args.shape.count = shown_count c.args.shape c.is_laid_out.new.host m shows in
+    let count : m.count ≡ c.args.shape.count = shown_count c.args.shape (g.D.Dev.outside c.is_laid_out.new.host) m shows in
     subst (λ o. two ≡ reason_with m c.args.view.now c.args.which o) (sym c.in-Some.is)
-    (not_laid_out m c.args.view.now len c.in-Some.geometry c.args.which c.args.walked.now (shown_size c.args.shape c.is_laid_out.new.host m shows ∙ c.requires.shape.blocksize) (count ∙ c.requires.shape.count) (c.requires.bounds.blocks ∙ sym count)
+    (not_laid_out m c.args.view.now len c.in-Some.geometry c.args.which c.args.walked.now (shown_size c.args.shape (g.D.Dev.outside c.is_laid_out.new.host) m shows ∙ c.requires.shape.blocksize) (count ∙ c.requires.shape.count) (c.requires.bounds.blocks ∙ sym count)
     (written ∙ c.in-Some.is) is (sym (c.in_ok-is_laid_out.ensures.right m shows) ∙ c.if-not-branch.true))
 
 pub returns-in-Some-2-clause-reason : goal.returns-in-Some-2-clause-reason
 returns-in-Some-2-clause-reason g c = λ m len shows written is.
     let three : Option Reason = Some (record { reason = 3; at = c.in-Some-2.at }) in
-    let count : m.count ≡ c.args.shape.count = shown_count c.args.shape c.first_wrong_bit.new.host m shows in
+    let count : m.count ≡ c.args.shape.count = shown_count c.args.shape (g.D.Dev.outside c.first_wrong_bit.new.host) m shows in
     subst (λ o. three ≡ reason_with m c.args.view.now c.args.which o) (sym c.in-Some.is)
-    (wrong_bitmap m c.args.view.now len c.in-Some.geometry c.args.which c.args.walked.now (shown_size c.args.shape c.first_wrong_bit.new.host m shows ∙ c.requires.shape.blocksize) (count ∙ c.requires.shape.count) (c.requires.bounds.blocks ∙ sym count)
+    (wrong_bitmap m c.args.view.now len c.in-Some.geometry c.args.which c.args.walked.now (shown_size c.args.shape (g.D.Dev.outside c.first_wrong_bit.new.host) m shows ∙ c.requires.shape.blocksize) (count ∙ c.requires.shape.count) (c.requires.bounds.blocks ∙ sym count)
     (written ∙ c.in-Some.is) is c.in-Some-2.at
-    (sym (c.in_ok-is_laid_out.ensures.right m (shows_before c.args.shape c.is_laid_out.new.host c.first_wrong_bit.new.host m c.first_wrong_bit.ensures.reads shows)) ∙ c.if-not-branch.false)
+    (sym (c.in_ok-is_laid_out.ensures.right m (shows_before c.args.shape (g.D.Dev.outside c.is_laid_out.new.host) (g.D.Dev.outside c.first_wrong_bit.new.host) m c.first_wrong_bit.ensures.reads shows)) ∙ c.if-not-branch.false)
     (sym c.in-Some-2.is ∙ c.in_ok-at.ensures.bit m shows))
 
 pub returns-clause-reason : goal.returns-clause-reason
 returns-clause-reason g c = λ m len shows written is.
-    let count : m.count ≡ c.args.shape.count = shown_count c.args.shape c.first_wrong_bit.new.host m shows in
+    let count : m.count ≡ c.args.shape.count = shown_count c.args.shape (g.D.Dev.outside c.first_wrong_bit.new.host) m shows in
     subst (λ o. option_map reason_in c.noted_reason.result ≡ reason_with m c.args.view.now c.args.which o) (sym c.in-Some.is)
     (c.noted_reason.ensures m (main_roots c.args.view.now) is
-    ∙ right_bitmap m c.args.view.now len c.in-Some.geometry c.args.which c.args.walked.now (shown_size c.args.shape c.first_wrong_bit.new.host m shows ∙ c.requires.shape.blocksize) (count ∙ c.requires.shape.count) (c.requires.bounds.blocks ∙ sym count)
+    ∙ right_bitmap m c.args.view.now len c.in-Some.geometry c.args.which c.args.walked.now (shown_size c.args.shape (g.D.Dev.outside c.first_wrong_bit.new.host) m shows ∙ c.requires.shape.blocksize) (count ∙ c.requires.shape.count) (c.requires.bounds.blocks ∙ sym count)
     (written ∙ c.in-Some.is) is
-    (sym (c.in_ok-is_laid_out.ensures.right m (shows_before c.args.shape c.is_laid_out.new.host c.first_wrong_bit.new.host m c.first_wrong_bit.ensures.reads shows)) ∙ c.if-not-branch.false)
+    (sym (c.in_ok-is_laid_out.ensures.right m (shows_before c.args.shape (g.D.Dev.outside c.is_laid_out.new.host) (g.D.Dev.outside c.first_wrong_bit.new.host) m c.first_wrong_bit.ensures.reads shows)) ∙ c.if-not-branch.false)
     (sym c.in_default-2.is ∙ c.in_ok-at.ensures.bit m shows))
 
 pub returns-in_err-is_laid_out-clause-no_finding : goal.returns-in_err-is_laid_out-clause-no_finding

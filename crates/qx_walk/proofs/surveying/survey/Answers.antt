@@ -20,7 +20,7 @@ returns-in-Err-clause-says g c = λ img told bytes active names.
     let m : BlockMap = image_blocks img s in
     let roots : ◌≡◌ {A = Roots} (record { inodes = c.root.result; longfile = c.root-2.result; further = c.root-3.result ∷ [] }) (main_roots s) = λ i. record { inodes = c.root.ensures i; longfile = c.root-2.ensures i; further = c.root-3.ensures i ∷ [] } in
     subst (IsFault img) (sym c.of.ensures)
-    (halted img c.args.which s active names c.in-Err.halt (subst (λ r. HaltsAt (finding_of m r) c.in-Err.halt) roots (c.in-Err.ensures.answer m (shown_blocks g.D.Dev.tells g.D.Dev.history g.D.Dev.attached g.D.Dev.con_faults _ s img c.args.host.now c.walk_tree.new.host (record { order = c.order.ensures; blocksize = c.blocksize.ensures; count = c.num_blocks.ensures }) c.walk_tree.ensures.reads told bytes))))
+    (halted img c.args.which s active names c.in-Err.halt (subst (λ r. HaltsAt (finding_of m r) c.in-Err.halt) roots (c.in-Err.ensures.answer m (shown_blocks _ s img (g.D.Dev.outside c.args.host.now) (g.D.Dev.outside c.walk_tree.new.host) (record { order = c.order.ensures; blocksize = c.blocksize.ensures; count = c.num_blocks.ensures }) c.walk_tree.ensures.reads told bytes))))
 
 pub returns-in-Err-first_reason-clause-says : goal.returns-in-Err-first_reason-clause-says
 returns-in-Err-first_reason-clause-says g c = λ img told bytes active names.
@@ -31,13 +31,13 @@ pub returns-in-Some-clause-says : goal.returns-in-Some-clause-says
 returns-in-Some-clause-says g c = λ img told bytes active names.
     let s : Superblock = c.args.view.now in
     let m : BlockMap = image_blocks img s in
-    let reads = reads_then c.args.host.now c.walk_tree.new.host c.first_reason.new.host c.walk_tree.ensures.reads c.first_reason.ensures.reads in
+    let reads = reads_then (g.D.Dev.outside c.args.host.now) (g.D.Dev.outside c.walk_tree.new.host) (g.D.Dev.outside c.first_reason.new.host) c.walk_tree.ensures.reads c.first_reason.ensures.reads in
     let roots : ◌≡◌ {A = Roots} (record { inodes = c.root.result; longfile = c.root-2.result; further = c.root-3.result ∷ [] }) (main_roots s) = λ i. record { inodes = c.root.ensures i; longfile = c.root-2.ensures i; further = c.root-3.ensures i ∷ [] } in
-    let is : IsWalked m (main_roots s) c.in-Ok.walked = subst (λ r. IsWalked m r c.in-Ok.walked) roots (c.in-Ok.ensures.walked m (shows_before _ c.walk_tree.new.host c.first_reason.new.host m c.first_reason.ensures.reads (shown_blocks g.D.Dev.tells g.D.Dev.history g.D.Dev.attached g.D.Dev.con_faults _ s img c.args.host.now c.first_reason.new.host (record { order = c.order.ensures; blocksize = c.blocksize.ensures; count = c.num_blocks.ensures }) reads told bytes))) in
+    let is : IsWalked m (main_roots s) c.in-Ok.walked = subst (λ r. IsWalked m r c.in-Ok.walked) roots (c.in-Ok.ensures.walked m (shows_before _ (g.D.Dev.outside c.walk_tree.new.host) (g.D.Dev.outside c.first_reason.new.host) m c.first_reason.ensures.reads (shown_blocks _ s img (g.D.Dev.outside c.args.host.now) (g.D.Dev.outside c.first_reason.new.host) (record { order = c.order.ensures; blocksize = c.blocksize.ensures; count = c.num_blocks.ensures }) reads told bytes))) in
     let long : c.args.len ≡ length img = sym (subst (λ o. IfSome o (λ n. n ≡ c.args.len)) (g.met.D.Dev.extent_is c.args.host.now (reads.before told)) c.requires.len) ∙ ap length bytes in
     let written : written_geometry s c.args.len ≡ c.geometry_of-geometry.result = sym c.geometry_of-geometry.ensures.geometry in
     let none : c.in-Ok-first_reason.foreign ≡ None = no_reason c.in-Ok-first_reason.foreign c.last_of-last.result c.in-Some.halt c.last_of-last.ensures.foreign c.in-Some.is in
-    let reason : reason_with m s c.args.which c.geometry_of-geometry.result ≡ None = sym (c.in-Ok-first_reason.ensures.reason m c.args.len (shown_blocks g.D.Dev.tells g.D.Dev.history g.D.Dev.attached g.D.Dev.con_faults _ s img c.args.host.now c.first_reason.new.host (record { order = c.order.ensures; blocksize = c.blocksize.ensures; count = c.num_blocks.ensures }) reads told bytes) written is) ∙ ap (option_map reason_in) none in
+    let reason : reason_with m s c.args.which c.geometry_of-geometry.result ≡ None = sym (c.in-Ok-first_reason.ensures.reason m c.args.len (shown_blocks _ s img (g.D.Dev.outside c.args.host.now) (g.D.Dev.outside c.first_reason.new.host) (record { order = c.order.ensures; blocksize = c.blocksize.ensures; count = c.num_blocks.ensures }) reads told bytes) written is) ∙ ap (option_map reason_in) none in
     subst (IsFault img) (sym c.of-in-Some.ensures)
     (halted_last img c.args.which s active names c.in-Ok.walked is c.geometry_of-geometry.result (ap (written_geometry s) (sym long) ∙ written) c.in-Some.halt reason c.in-Some.ensures.named
     (subst (IsLast (last_with m s c.geometry_of-geometry.result)) c.in-Some.is (c.last_of-last.ensures.last m c.args.len c.args.which refl refl written is reason none)))
@@ -46,12 +46,12 @@ pub returns-in-None-clause-says : goal.returns-in-None-clause-says
 returns-in-None-clause-says g c = λ img told bytes active names.
     let s : Superblock = c.args.view.now in
     let m : BlockMap = image_blocks img s in
-    let reads = reads_then c.args.host.now c.walk_tree.new.host c.first_reason.new.host c.walk_tree.ensures.reads c.first_reason.ensures.reads in
+    let reads = reads_then (g.D.Dev.outside c.args.host.now) (g.D.Dev.outside c.walk_tree.new.host) (g.D.Dev.outside c.first_reason.new.host) c.walk_tree.ensures.reads c.first_reason.ensures.reads in
     let roots : ◌≡◌ {A = Roots} (record { inodes = c.root.result; longfile = c.root-2.result; further = c.root-3.result ∷ [] }) (main_roots s) = λ i. record { inodes = c.root.ensures i; longfile = c.root-2.ensures i; further = c.root-3.ensures i ∷ [] } in
-    let is : IsWalked m (main_roots s) c.in-Ok.walked = subst (λ r. IsWalked m r c.in-Ok.walked) roots (c.in-Ok.ensures.walked m (shows_before _ c.walk_tree.new.host c.first_reason.new.host m c.first_reason.ensures.reads (shown_blocks g.D.Dev.tells g.D.Dev.history g.D.Dev.attached g.D.Dev.con_faults _ s img c.args.host.now c.first_reason.new.host (record { order = c.order.ensures; blocksize = c.blocksize.ensures; count = c.num_blocks.ensures }) reads told bytes))) in
+    let is : IsWalked m (main_roots s) c.in-Ok.walked = subst (λ r. IsWalked m r c.in-Ok.walked) roots (c.in-Ok.ensures.walked m (shows_before _ (g.D.Dev.outside c.walk_tree.new.host) (g.D.Dev.outside c.first_reason.new.host) m c.first_reason.ensures.reads (shown_blocks _ s img (g.D.Dev.outside c.args.host.now) (g.D.Dev.outside c.first_reason.new.host) (record { order = c.order.ensures; blocksize = c.blocksize.ensures; count = c.num_blocks.ensures }) reads told bytes))) in
     let long : c.args.len ≡ length img = sym (subst (λ o. IfSome o (λ n. n ≡ c.args.len)) (g.met.D.Dev.extent_is c.args.host.now (reads.before told)) c.requires.len) ∙ ap length bytes in
     let written : written_geometry s c.args.len ≡ c.geometry_of-geometry.result = sym c.geometry_of-geometry.ensures.geometry in
-    let reason : option_map reason_in c.in-Ok-first_reason.foreign ≡ reason_with m s c.args.which c.geometry_of-geometry.result = c.in-Ok-first_reason.ensures.reason m c.args.len (shown_blocks g.D.Dev.tells g.D.Dev.history g.D.Dev.attached g.D.Dev.con_faults _ s img c.args.host.now c.first_reason.new.host (record { order = c.order.ensures; blocksize = c.blocksize.ensures; count = c.num_blocks.ensures }) reads told bytes) written is in
+    let reason : option_map reason_in c.in-Ok-first_reason.foreign ≡ reason_with m s c.args.which c.geometry_of-geometry.result = c.in-Ok-first_reason.ensures.reason m c.args.len (shown_blocks _ s img (g.D.Dev.outside c.args.host.now) (g.D.Dev.outside c.first_reason.new.host) (record { order = c.order.ensures; blocksize = c.blocksize.ensures; count = c.num_blocks.ensures }) reads told bytes) written is in
     subst (IsSurvey img) (sym c.survey_of.ensures)
     (surveyed img c.args.which s active names c.in-Ok.walked is c.geometry_of-geometry.result (ap (written_geometry s) (sym long) ∙ written) c.in-Ok-first_reason.foreign (c.in-Ok.ensures.bounds.blocks ∙ c.num_blocks.ensures) reason
     (λ none. subst (IsLast (last_with m s c.geometry_of-geometry.result)) c.in-None.is (c.last_of-last.ensures.last m c.args.len c.args.which refl refl written is (sym reason ∙ ap (option_map reason_in) none) none)))

@@ -14,8 +14,8 @@ survey-requires-clause-room g c = (fits_active c.in-Active.which c.areas.new.fir
 
 pub returns-in-Some-clause-says : goal.returns-in-Some-clause-says
 returns-in-Some-clause-says g c = λ told.
-    let before : IsTrue (g.D.Dev.tells c.areas.new.host) = c.survey.ensures.reads.before told in
-    let img : List ℕ = bytes_of (g.D.Dev.history c.areas.new.host) in
+    let before : IsTrue (g.D.Dev.outside c.areas.new.host).tells = c.survey.ensures.reads.before told in
+    let img : List ℕ = bytes_of (g.D.Dev.outside c.areas.new.host).history in
     let active : active_area img ≡ picks.Active c.in-Active.which = sym (c.in-Ok.ensures.active before) ∙ c.in-Active.is in
     let long : c.args.len ≡ length img = told_length _ _ (length img) c.args.len c.areas.ensures.extent (g.met.D.Dev.extent_is c.areas.new.host before) c.requires.len in
     let names : active_super img ≡ Some c.in-Some.view = active_read img c.areas.new.first c.areas.new.second c.in-Active.which c.args.len c.in-Some.view long

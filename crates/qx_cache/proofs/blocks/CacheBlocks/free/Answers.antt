@@ -6,4 +6,4 @@ use Rattle.qx_cache.proofs.blocks.CacheBlocks.free.Goals as goal
 
 pub returns-clause-consistent : goal.returns-clause-consistent
 returns-clause-consistent g c =
-    subst (λ v. IsConsistent (state_of g.H.Dev.tells g.H.Dev.history v)) c.self.view_is (consistent-state g.H.Dev.tells g.H.Dev.history g.met.H.Dev.extent_is _ c.self.invariant.coherent)
+    subst (λ v. IsConsistent (state_of g.H.Dev.outside v)) c.self.view_is (consistent-state g.H.Dev.outside g.met.H.Dev.extent_is _ c.self.invariant.coherent)

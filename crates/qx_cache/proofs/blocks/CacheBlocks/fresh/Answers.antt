@@ -19,7 +19,7 @@ invariant_of-self-2 g c =
     let b = c.take-b.result in
     let blocks : c.put.new.self.blocks ≡ insert a.changes.blocks b (replicate a.size 0) = ap (λ p. p.blocks) c.put.ensures ∙ (λ i. insert (c.reserve.ensures.blocks i) b (c.zeros.ensures i)) in
     let whole : cache_in a.host a.size c.take-b.new.self c.put.new.self a.frozen_changes c.kept_but-self-inside.result ≡ with_taken v b = λ i. record v { space = c.take-b.ensures.taken i; changes = blocks i; kept = c.kept_but-self-inside.ensures i } in
-    subst (λ w. IsInOrder g.H.Dev.tells g.H.Dev.history g.H.Dev.extent w c.put.new.self a.frozen_changes a.buffer.items a.spare.items) (sym whole)
+    subst (λ w. IsInOrder g.H.Dev.outside w c.put.new.self a.frozen_changes a.buffer.items a.spare.items) (sym whole)
     (order-taken v a.changes a.frozen_changes a.buffer.items a.spare.items b c.self.invariant c.take-b.ensures.unheld (subst IsConsistent c.take-b.ensures.taken c.take-b.ensures.consistent)
     c.put.new.self (ap (λ p. p.size) c.put.ensures ∙ c.reserve.ensures.size))
 
@@ -30,9 +30,9 @@ returns-clause-taken g c =
     let b = c.take-b.result in
     let blocks : c.put.new.self.blocks ≡ insert a.changes.blocks b (replicate a.size 0) = ap (λ p. p.blocks) c.put.ensures ∙ (λ i. insert (c.reserve.ensures.blocks i) b (c.zeros.ensures i)) in
     let whole : cache_in a.host a.size c.take-b.new.self c.put.new.self a.frozen_changes c.kept_but-self-inside.result ≡ with_taken v b = λ i. record v { space = c.take-b.ensures.taken i; changes = blocks i; kept = c.kept_but-self-inside.ensures i } in
-    ap (state_of g.H.Dev.tells g.H.Dev.history) whole
-    ∙ state-taken g.H.Dev.tells g.H.Dev.history v b c.take-b.ensures.unheld (sym (ap (λ s. free_in s + 1) c.take-b.ensures.taken) ∙ c.take-b.ensures.free)
-    ∙ ap (λ w. with_fresh (state_of g.H.Dev.tells g.H.Dev.history w) b) c.self.view_is
+    ap (state_of g.H.Dev.outside) whole
+    ∙ state-taken g.H.Dev.outside v b c.take-b.ensures.unheld (sym (ap (λ s. free_in s + 1) c.take-b.ensures.taken) ∙ c.take-b.ensures.free)
+    ∙ ap (λ w. with_fresh (state_of g.H.Dev.outside w) b) c.self.view_is
 
 pub returns-clause-cache : goal.returns-clause-cache
 returns-clause-cache g c =

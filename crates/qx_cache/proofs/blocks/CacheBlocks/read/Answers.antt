@@ -27,18 +27,18 @@ returns g c =
         refl,
         λ _. tt,
         (
-          subst (λ w. Keeps (state_of g.H.Dev.tells g.H.Dev.history old) (state_of g.H.Dev.tells g.H.Dev.history w)) (sym whole) (keeps-read g.H.Dev.tells g.H.Dev.history old new.host kept idles),
-          ap (aside_of g.H.Dev.attached g.H.Dev.con_faults) whole ∙ same-aside g.H.Dev.attached g.H.Dev.con_faults old new.host kept c.in_ok-bring.ensures.others.paths c.in_ok-bring.ensures.others.console,
+          subst (λ w. Keeps (state_of g.H.Dev.outside old) (state_of g.H.Dev.outside w)) (sym whole) (keeps-read g.H.Dev.outside old new.host kept idles),
+          ap (aside_of g.H.Dev.outside) whole ∙ same-aside g.H.Dev.outside old new.host kept c.in_ok-bring.ensures.others.paths c.in_ok-bring.ensures.others.console,
           record { later = c.in_ok-bring.ensures.cause.later; device = tt; kept = λ _. search (rules, c.in_ok-bring.ensures.cause.kept) },
           λ told. c.at_hand.ensures.told told
-              ∙ ap (λ w. bytes_over (bytes_of (g.H.Dev.history new.host)) w c.args.b) whole
+              ∙ ap (λ w. bytes_over (bytes_of (g.H.Dev.outside new.host).history) w c.args.b) whole
               ∙ ap (λ h. bytes_over (bytes_of h) old c.args.b) (idles.step told),
           c.in_ok-bring.ensures.reads,
         ),
       ),
       record {
         long = c.at_hand.ensures.long ∙ ap (λ w. w.size) whole;
-        ready = λ ready. changed-bytes (get old.changes c.args.b) (get old.frozen_changes c.args.b) (is_held old.space c.args.b) (device_block (bytes_of (g.H.Dev.history old.host)) old.size c.args.b) c.at_hand.result.now ready
+        ready = λ ready. changed-bytes (get old.changes c.args.b) (get old.frozen_changes c.args.b) (is_held old.space c.args.b) (device_block (bytes_of (g.H.Dev.outside old.host).history) old.size c.args.b) c.at_hand.result.now ready
             (subst (λ w. IfSome (change_of w c.args.b) (λ now. c.at_hand.result.now ≡ now)) whole c.at_hand.ensures.changed);
         leaves = tt;
       },

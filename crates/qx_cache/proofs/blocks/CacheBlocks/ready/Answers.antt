@@ -8,7 +8,7 @@ use Rattle.qx_cache.proofs.blocks.CacheBlocks.ready.Goals as goal
 pub returns-clause-ok : goal.returns-clause-ok
 returns-clause-ok g c =
     let private : is_private_in c.self.inside.space c.args.b ≡ true = ap (λ s. is_private_in s.space c.args.b) c.self.view_is ∙ c.requires in
-    made-ready g.H.Dev.tells g.H.Dev.history c.args.self.now c.args.b (sym (ap (λ s. contains_key s.changes c.args.b) c.self.view_is) ∙ c.self.invariant.coherent.private_changed c.args.b ∙ private)
+    made-ready g.H.Dev.outside c.args.self.now c.args.b (sym (ap (λ s. contains_key s.changes c.args.b) c.self.view_is) ∙ c.self.invariant.coherent.private_changed c.args.b ∙ private)
 
 pub returns-clause-kept : goal.returns-clause-kept
 returns-clause-kept g c =

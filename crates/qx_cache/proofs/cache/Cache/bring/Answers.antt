@@ -14,9 +14,9 @@ use Rattle.qx_cache.proofs.cache.Cache.bring.Goals.{then-is_changed-via-then-is_
 pub returns-then-is_changed-clause-reads : goal.returns-then-is_changed-clause-reads
 returns-then-is_changed-clause-reads g c = elim c.then-is_changed.branch [
   | then-is_changed-via-then-is_changed w ↦
-      reads-changed g.H.Dev.tells g.H.Dev.history g.H.Dev.extent g.H.Dev.dev_reads c.args.self.now c.args.b (sym c.is_changed.ensures ∙ w.if-is_changed.true)
+      reads-changed g.H.Dev.outside c.args.self.now c.args.b (sym c.is_changed.ensures ∙ w.if-is_changed.true)
   | then-is_changed-via-else-is_changed+then-is_kept w ↦
-      reads-kept g.H.Dev.tells g.H.Dev.history g.H.Dev.extent g.H.Dev.dev_reads c.args.self.now c.args.b w.is_kept.ensures.few (sym w.is_kept.ensures.kept ∙ w.if-is_kept.true)
+      reads-kept g.H.Dev.outside c.args.self.now c.args.b w.is_kept.ensures.few (sym w.is_kept.ensures.kept ∙ w.if-is_kept.true)
 ]
 
 pub invariant_of-self : goal.invariant_of-self
@@ -42,8 +42,8 @@ invariant_of-self-2 g c =
     let whole : into ≡ c.read_at.new.into = rw (a.spare.ok.0) (refit-same a.spare.items c.read_at.new.into long) in
     let ok = ok_holds c.read_at.result _ (sym c.is_err.ensures.value ∙ c.if-is_err.false) c.read_at.ensures.bytes in
     let size : length c.deref_mut.result.now ≡ a.size = ap length c.deref_mut.ensures.value ∙ c.self.invariant.spare_long in
-    subst (λ xs. IsInOrder g.H.Dev.tells g.H.Dev.history g.H.Dev.extent (cache_in c.read_at.new.self a.size a.space a.changes a.frozen_changes (Some c.args.b)) a.changes a.frozen_changes xs c.swap.new.y.items) (sym (ap (λ w. w.items) c.swap.ensures.x_after))
-    (subst (λ ys. IsInOrder g.H.Dev.tells g.H.Dev.history g.H.Dev.extent (cache_in c.read_at.new.self a.size a.space a.changes a.frozen_changes (Some c.args.b)) a.changes a.frozen_changes into ys) (sym (ap (λ w. w.items) c.swap.ensures.y_after))
+    subst (λ xs. IsInOrder g.H.Dev.outside (cache_in c.read_at.new.self a.size a.space a.changes a.frozen_changes (Some c.args.b)) a.changes a.frozen_changes xs c.swap.new.y.items) (sym (ap (λ w. w.items) c.swap.ensures.x_after))
+    (subst (λ ys. IsInOrder g.H.Dev.outside (cache_in c.read_at.new.self a.size a.space a.changes a.frozen_changes (Some c.args.b)) a.changes a.frozen_changes into ys) (sym (ap (λ w. w.items) c.swap.ensures.y_after))
     (order-read v a.changes a.frozen_changes a.buffer.items a.spare.items into c.read_at.new.self c.args.b c.self.invariant c.read_at.ensures.extent c.read_at.ensures.step
     (ap (λ s. is_held s.space c.args.b) c.self.view_is ∙ c.requires) clean.0 clean.1 (ap length whole ∙ long)
-    (λ told. whole ∙ ok told ∙ (λ i. slice_range (bytes_of (g.H.Dev.history a.host)) (c.block_place-place.ensures.place i) (c.block_place-place.ensures.place i + size i)))))
+    (λ told. whole ∙ ok told ∙ (λ i. slice_range (bytes_of (g.H.Dev.outside a.host).history) (c.block_place-place.ensures.place i) (c.block_place-place.ensures.place i + size i)))))

@@ -19,9 +19,9 @@ invariant_of-self g c =
     let v = cache_in a.host a.size a.space a.changes a.frozen_changes a.clean in
     let bytes = c.in-Some-get.bytes.now in
     let there : get v.frozen_changes c.in-Some.b ≡ Some bytes = sym c.in-Some-get.ensures in
-    let writes : Writes g.H.Dev.tells g.H.Dev.history (block_place a.size c.in-Some.b) bytes a.host c.write_at.new.self = subst (λ at. Writes g.H.Dev.tells g.H.Dev.history at bytes a.host c.write_at.new.self) c.block_place.ensures.place c.write_at.ensures.step in
+    let writes : Writes (block_place a.size c.in-Some.b) bytes (g.H.Dev.outside a.host) (g.H.Dev.outside c.write_at.new.self) = subst (λ at. Writes at bytes (g.H.Dev.outside a.host) (g.H.Dev.outside c.write_at.new.self)) c.block_place.ensures.place c.write_at.ensures.step in
     order-host v a.changes a.frozen_changes a.buffer.items a.spare.items c.write_at.new.self c.self.invariant c.write_at.ensures.others.extent_same writes.before
-    (λ q kept told. others-stay v c.in-Some.b bytes c.self.invariant.coherent c.in-Some.ensures there g.H.Dev.tells g.H.Dev.history g.met.H.Dev.extent_is c.write_at.new.self writes told q
+    (λ q kept told. others-stay v c.in-Some.b bytes c.self.invariant.coherent c.in-Some.ensures there g.met.H.Dev.extent_is c.write_at.new.self writes told q
     (kept-apart v c.in-Some.b bytes c.self.invariant.coherent c.in-Some.ensures there q kept))
 
 pub returns-in_err-write_at-clause-failed : goal.returns-in_err-write_at-clause-failed
@@ -31,11 +31,11 @@ returns-in_err-write_at-clause-failed g c =
     let bytes = c.in-Some-get.bytes.now in
     let there : get v.frozen_changes c.in-Some.b ≡ Some bytes = sym c.in-Some-get.ensures in
     err_holds c.from_residual.result _
-    (subst (λ w. FailsToWriteNext g.H.Dev.tells g.H.Dev.history w (with_host v c.write_at.new.self)) c.self.view_is (record {
+    (subst (λ w. FailsToWriteNext g.H.Dev.outside w (with_host v c.write_at.new.self)) c.self.view_is (record {
       block = c.in-Some.b;
       bytes = bytes;
       next = is-next v c.in-Some.b bytes c.self.invariant.coherent c.in-Some.ensures there;
-      failed = subst (λ at. FailsToWrite g.H.Dev.tells g.H.Dev.history at bytes a.host c.write_at.new.self) c.block_place.ensures.place c.in_err-write_at.ensures.err;
+      failed = subst (λ at. FailsToWrite at bytes (g.H.Dev.outside a.host) (g.H.Dev.outside c.write_at.new.self)) c.block_place.ensures.place c.in_err-write_at.ensures.err;
       rest = refl;
     }))
 
@@ -45,10 +45,10 @@ returns-in_err-write_at-clause-blocks g c =
     let v = cache_in a.host a.size a.space a.changes a.frozen_changes a.clean in
     let bytes = c.in-Some-get.bytes.now in
     let there : get v.frozen_changes c.in-Some.b ≡ Some bytes = sym c.in-Some-get.ensures in
-    let writes : Writes g.H.Dev.tells g.H.Dev.history (block_place a.size c.in-Some.b) bytes a.host c.write_at.new.self = subst (λ at. Writes g.H.Dev.tells g.H.Dev.history at bytes a.host c.write_at.new.self) c.block_place.ensures.place c.write_at.ensures.step in
-    subst (λ w. HasSameBlocks g.H.Dev.tells g.H.Dev.history w (with_host v c.write_at.new.self)) c.self.view_is
-    (same-blocks g.H.Dev.tells g.H.Dev.history v c.write_at.new.self (λ told q clean held.
-    others-stay v c.in-Some.b bytes c.self.invariant.coherent c.in-Some.ensures there g.H.Dev.tells g.H.Dev.history g.met.H.Dev.extent_is c.write_at.new.self writes told q
+    let writes : Writes (block_place a.size c.in-Some.b) bytes (g.H.Dev.outside a.host) (g.H.Dev.outside c.write_at.new.self) = subst (λ at. Writes at bytes (g.H.Dev.outside a.host) (g.H.Dev.outside c.write_at.new.self)) c.block_place.ensures.place c.write_at.ensures.step in
+    subst (λ w. HasSameBlocks g.H.Dev.outside w (with_host v c.write_at.new.self)) c.self.view_is
+    (same-blocks g.H.Dev.outside v c.write_at.new.self (λ told q clean held.
+    others-stay v c.in-Some.b bytes c.self.invariant.coherent c.in-Some.ensures there g.met.H.Dev.extent_is c.write_at.new.self writes told q
     (clean-apart v c.in-Some.b bytes c.self.invariant.coherent c.in-Some.ensures there q clean)))
 
 pub invariant_of-self-2 : goal.invariant_of-self-2
@@ -57,10 +57,10 @@ invariant_of-self-2 g c =
     let v = cache_in a.host a.size a.space a.changes a.frozen_changes a.clean in
     let bytes = c.in-Some-get.bytes.now in
     let there : get v.frozen_changes c.in-Some.b ≡ Some bytes = sym c.in-Some-get.ensures in
-    let writes : Writes g.H.Dev.tells g.H.Dev.history (block_place a.size c.in-Some.b) bytes a.host c.write_at.new.self = subst (λ at. Writes g.H.Dev.tells g.H.Dev.history at bytes a.host c.write_at.new.self) c.block_place.ensures.place c.write_at.ensures.step in
-    subst (λ p. IsInOrder g.H.Dev.tells g.H.Dev.history g.H.Dev.extent (cache_in c.write_at.new.self a.size a.space a.changes p a.clean) a.changes p a.buffer.items a.spare.items) (sym c.take_out.ensures)
+    let writes : Writes (block_place a.size c.in-Some.b) bytes (g.H.Dev.outside a.host) (g.H.Dev.outside c.write_at.new.self) = subst (λ at. Writes at bytes (g.H.Dev.outside a.host) (g.H.Dev.outside c.write_at.new.self)) c.block_place.ensures.place c.write_at.ensures.step in
+    subst (λ p. IsInOrder g.H.Dev.outside (cache_in c.write_at.new.self a.size a.space a.changes p a.clean) a.changes p a.buffer.items a.spare.items) (sym c.take_out.ensures)
     (order-written v a.changes a.frozen_changes a.buffer.items a.spare.items c.write_at.new.self c.in-Some.b c.self.invariant c.in-Some.ensures.there c.write_at.ensures.others.extent_same writes.before
-    (λ q kept told. others-stay v c.in-Some.b bytes c.self.invariant.coherent c.in-Some.ensures there g.H.Dev.tells g.H.Dev.history g.met.H.Dev.extent_is c.write_at.new.self writes told q
+    (λ q kept told. others-stay v c.in-Some.b bytes c.self.invariant.coherent c.in-Some.ensures there g.met.H.Dev.extent_is c.write_at.new.self writes told q
     (kept-apart v c.in-Some.b bytes c.self.invariant.coherent c.in-Some.ensures there q kept)))
 
 pub returns-clause-none : goal.returns-clause-none
@@ -75,11 +75,11 @@ returns-clause-wrote g c _ =
     let v = cache_in a.host a.size a.space a.changes a.frozen_changes a.clean in
     let bytes = c.in-Some-get.bytes.now in
     let there : get v.frozen_changes c.in-Some.b ≡ Some bytes = sym c.in-Some-get.ensures in
-    subst (λ w. WritesNext g.H.Dev.tells g.H.Dev.history w (cache_in c.write_at.new.self a.size a.space a.changes c.take_out.new.self a.clean)) c.self.view_is (record {
+    subst (λ w. WritesNext g.H.Dev.outside w (cache_in c.write_at.new.self a.size a.space a.changes c.take_out.new.self a.clean)) c.self.view_is (record {
       block = c.in-Some.b;
       bytes = bytes;
       next = is-next v c.in-Some.b bytes c.self.invariant.coherent c.in-Some.ensures there;
-      did = subst (λ at. Did g.H.Dev.tells g.H.Dev.history (wrote at bytes bytes true) a.host c.write_at.new.self) c.block_place.ensures.place c.in_ok-write_at.ensures.ok;
+      did = subst (λ at. Did (wrote at bytes bytes true) (g.H.Dev.outside a.host) (g.H.Dev.outside c.write_at.new.self)) c.block_place.ensures.place c.in_ok-write_at.ensures.ok;
       rest = ap (λ p. cache_in c.write_at.new.self a.size a.space a.changes p a.clean) c.take_out.ensures;
     })
 
@@ -92,13 +92,13 @@ returns-clause-blocks g c =
     let bytes = c.in-Some-get.bytes.now in
     let k = c.self.invariant.coherent in
     let there : get v.frozen_changes b ≡ Some bytes = sym c.in-Some-get.ensures in
-    let writes : Writes g.H.Dev.tells g.H.Dev.history (block_place a.size b) bytes a.host host = subst (λ at. Writes g.H.Dev.tells g.H.Dev.history at bytes a.host host) c.block_place.ensures.place c.write_at.ensures.step in
-    let did : Did g.H.Dev.tells g.H.Dev.history (wrote (block_place a.size b) bytes bytes true) a.host host = subst (λ at. Did g.H.Dev.tells g.H.Dev.history (wrote at bytes bytes true) a.host host) c.block_place.ensures.place c.in_ok-write_at.ensures.ok in
-    subst (λ p. HasSameBlocks g.H.Dev.tells g.H.Dev.history c.args.self.now (cache_in host a.size a.space a.changes p a.clean)) (sym c.take_out.ensures)
-    (subst (λ w. HasSameBlocks g.H.Dev.tells g.H.Dev.history w (with_written v host b)) c.self.view_is
-    (same-written g.H.Dev.tells g.H.Dev.history v host b bytes (next-absent v b bytes k c.in-Some.ensures there) there (next-held v b bytes k c.in-Some.ensures there)
-    (next-stands v b bytes k c.in-Some.ensures there g.H.Dev.tells g.H.Dev.history g.met.H.Dev.extent_is host did)
-    (others-stay v b bytes k c.in-Some.ensures there g.H.Dev.tells g.H.Dev.history g.met.H.Dev.extent_is host writes)))
+    let writes : Writes (block_place a.size b) bytes (g.H.Dev.outside a.host) (g.H.Dev.outside host) = subst (λ at. Writes at bytes (g.H.Dev.outside a.host) (g.H.Dev.outside host)) c.block_place.ensures.place c.write_at.ensures.step in
+    let did : Did (wrote (block_place a.size b) bytes bytes true) (g.H.Dev.outside a.host) (g.H.Dev.outside host) = subst (λ at. Did (wrote at bytes bytes true) (g.H.Dev.outside a.host) (g.H.Dev.outside host)) c.block_place.ensures.place c.in_ok-write_at.ensures.ok in
+    subst (λ p. HasSameBlocks g.H.Dev.outside c.args.self.now (cache_in host a.size a.space a.changes p a.clean)) (sym c.take_out.ensures)
+    (subst (λ w. HasSameBlocks g.H.Dev.outside w (with_written v host b)) c.self.view_is
+    (same-written g.H.Dev.outside v host b bytes (next-absent v b bytes k c.in-Some.ensures there) there (next-held v b bytes k c.in-Some.ensures there)
+    (next-stands v b bytes k c.in-Some.ensures there g.met.H.Dev.extent_is host did)
+    (others-stay v b bytes k c.in-Some.ensures there g.met.H.Dev.extent_is host writes)))
 
 pub returns-clause-coherent : goal.returns-clause-coherent
 returns-clause-coherent g c = (invariant_of-self-2 g c).coherent

@@ -54,7 +54,7 @@ loop-at-preserved g c =
     let written : take c.loop-at.bytes.len (new ++ drop (length new) old) ≡ new = take_at new (drop (length new) old) c.loop-at.bytes.len len in
     record {
       filled = λ m s up.
-          let size : m.size ≡ c.args.shape.blocksize = shown_size c.args.shape c.read_run.new.host m s in
+          let size : m.size ≡ c.args.shape.blocksize = shown_size c.args.shape (g.D.Dev.outside c.read_run.new.host) m s in
           let before : IsFilled m c.div_ceil-count.result leaves at old = c.loop-at.invariant.filled m (shows_before c.args.shape _ _ m c.in_ok-read_run.ensures.reads s) up in
           let here : (k : ℕ) → k < run → leaf_range m.size new (first.index + k) ≡ m.bytes (first.block + k)
           = λ k low. subst (λ n. leaf_range n new (first.index + k) ≡ m.bytes (first.block + k)) (sym size) (c.in_ok-read_run.ensures.leaves m s k low) in

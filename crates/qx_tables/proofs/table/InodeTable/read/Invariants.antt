@@ -9,12 +9,12 @@ use Rattle.qx_tables.proofs.table.InodeTable.read.Given as goal
 -- the leaves so far stand in their places, and the others are 0
 abbrev pub invariant-loop-at : goal.invariant-loop-at
 invariant-loop-at g l = record {
-  filled : (m : BlockMap) → Shows g.D.Dev.tells g.D.Dev.history l.fn.shape l.host m → IsAscending (numbers_of l.leaves) → IsFilled m l.count l.leaves l.at l.bytes.items;
+  filled : (m : BlockMap) → Shows l.fn.shape (g.D.Dev.outside l.host) m → IsAscending (numbers_of l.leaves) → IsFilled m l.count l.leaves l.at l.bytes.items;
   long : length l.bytes.items ≡ l.count * l.fn.shape.blocksize;
   taken : l.at ≤ length l.leaves;
-  fits : Fits g.D.Dev.extent l.fn.shape l.host;
-  reads : JustReads g.D.Dev.tells g.D.Dev.history g.D.Dev.attached g.D.Dev.con_faults l.fn.host l.host;
-  faults : g.D.Dev.dev_faults l.host ≡ g.D.Dev.dev_faults l.fn.host;
+  fits : Fits l.fn.shape (g.D.Dev.outside l.host);
+  reads : JustReads (g.D.Dev.outside l.fn.host) (g.D.Dev.outside l.host);
+  faults : (g.D.Dev.outside l.host).dev_faults ≡ (g.D.Dev.outside l.fn.host).dev_faults;
 }
 
 -- the leaves that are left

@@ -11,7 +11,7 @@ returns-clause-leaves g c = λ m s.
     let at : ℕ = c.args.first.index * c.args.shape.blocksize in
     let many : ℕ = c.args.count * c.args.shape.blocksize in
     let piece = c.read_blocks.new.into in
-    let size : m.size ≡ c.args.shape.blocksize = shown_size c.args.shape c.read_blocks.new.host m s in
+    let size : m.size ≡ c.args.shape.blocksize = shown_size c.args.shape (g.D.Dev.outside c.read_blocks.new.host) m s in
     let long : length piece ≡ many = omega (arith, c.read_blocks.ensures.long, c.requires.inside, length-take (at + many - at) (drop at c.args.bytes.now), length-drop at c.args.bytes.now) in
     on_ok_weaker c.read_blocks.result (λ (h : HasBlocks m c.args.first.block piece) k low.
     let room : k * c.args.shape.blocksize + c.args.shape.blocksize ≤ length piece = omega (arith, long, room_of k c.args.count c.args.shape.blocksize low) in

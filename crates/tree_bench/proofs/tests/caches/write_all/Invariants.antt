@@ -3,4 +3,4 @@ use Rattle.tree_bench.specs.Nodes.{IsNode}
 use Rattle.tree_bench.proofs.tests.caches.write_all.Given as goal
 
 abbrev pub invariant-loop-count : goal.invariant-loop-count
-invariant-loop-count g l = IsNode l.fn.order (state_of g.H.Dev.tells g.H.Dev.history l.cache) l.fn.node
+invariant-loop-count g l = IsNode l.fn.order (state_of g.H.Dev.outside l.cache) l.fn.node
