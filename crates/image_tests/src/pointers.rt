@@ -6,6 +6,7 @@ use qx_fields::put32;
 use qx_geom::{ABSENT, Root};
 use qx_outside::{Dev, MemHost};
 use qx_pointers::{Halt, LeafPlace, Part, Shape, Visitor, read_block, walk_node};
+use qx_view::{Code, Finding};
 use std::alloc::Global;
 use std::test::Fail;
 
@@ -115,12 +116,12 @@ fn whole(leaves: u64, end: Option<u32>) -> Part {
 }
 
 /// A failed test at inode 7.
-fn finding(code: u8, block: u32) -> Halt {
-    Halt::Finding {
+fn finding(code: Code, block: u32) -> Halt {
+    Halt::Finding(Finding {
         code,
         inode: 7,
         block,
-    }
+    })
 }
 
 /// Two ways down so many levels: from slot 0 by the first pointers to block `levels`, and from slot 2 by the fourth ones to block `2 * levels + 1`.
@@ -261,30 +262,36 @@ fn what_is_seen_of_pointers_is_said(rt: HostRuntime) -> Result<(), Fail> {
             2 * 512,
             &[0],
             &[(0, 0, 4), (0, 1, 4)],
-            Err(finding(3, 4)),
+            Err(finding(Code::Twice, 4)),
         ),
         (
             "a block that points at itself",
             512,
             &[0],
             &[(0, 0, 0)],
-            Err(finding(3, 0)),
+            Err(finding(Code::Twice, 0)),
         ),
         (
             "a block twice",
             129 * 512,
             &[6, 6],
             &[(6, 0, 2)],
-            Err(finding(3, 6)),
+            Err(finding(Code::Twice, 6)),
         ),
         (
             "a leaf out of range",
             512,
             &[0],
             &[(0, 0, 8)],
-            Err(finding(2, 8)),
+            Err(finding(Code::Pointer, 8)),
         ),
-        ("a block out of range", 512, &[8], &[], Err(finding(2, 8))),
+        (
+            "a block out of range",
+            512,
+            &[8],
+            &[],
+            Err(finding(Code::Pointer, 8)),
+        ),
     ];
     for (name, size, roots, words, want) in cases {
         let visitor = file_of(shape_of(Little, 8));
@@ -297,7 +304,7 @@ fn what_is_seen_of_pointers_is_said(rt: HostRuntime) -> Result<(), Fail> {
 #[test]
 fn bounds_come_before_pointers(rt: HostRuntime) -> Result<(), Fail> {
     let alloc = rt.alloc();
-    let beyond = Err(finding(1, ABSENT));
+    let beyond = Err(finding(Code::Levels, ABSENT));
     let hole = Ok(whole(0, None));
     // The size, the levels, whether all blocks bound it, and the answer. There are 4 blocks of 512 bytes.
     let cases = [
@@ -377,7 +384,7 @@ fn what_an_earlier_walk_met_is_met_again(rt: HostRuntime) -> Result<(), Fail> {
         &node_of(1024, 1, &[2]),
         &mut met,
     )?;
-    assert_eq!(rt; second.answer, Err(finding(3, 1)));
+    assert_eq!(rt; second.answer, Err(finding(Code::Twice, 1)));
     Ok(())
 }
 

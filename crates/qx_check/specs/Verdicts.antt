@@ -11,8 +11,8 @@ use Rattle.qx_check.specs.declared.verdict.Verdict.TheVariants as verdicts
 abbrev pub IsVerdict : List ℕ → Verdict → Type 0
 IsVerdict img (verdicts.Clean which serial free_blocks free_inodes) =
     (s : Superblock) × (verdict_of img ≡ Clean which s) × (serial ≡ s.serial) × (free_blocks ≡ s.free_blocks) × (free_inodes ≡ s.free_inodes)
-IsVerdict img (verdicts.Foreign reason at) = verdict_of img ≡ Foreign (record { reason = reason; at = at })
-IsVerdict img (verdicts.Damaged code inode block) = verdict_of img ≡ Damaged (record { code = code; inode = inode; block = block })
+IsVerdict img (verdicts.Foreign why) = verdict_of img ≡ Foreign why
+IsVerdict img (verdicts.Damaged found) = verdict_of img ≡ Damaged found
 
 -- an answer without a verdict says why there is none, want of memory and faults aside
 abbrev pub IsFault : List ℕ → CheckFault → Type 0

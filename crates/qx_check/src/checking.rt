@@ -27,16 +27,9 @@ pub fn check<D: Dev>(alloc: Global, host: &mut D) -> Result<Verdict, CheckFault>
         Err(WalkFault::Disagree) => Err(CheckFault::Disagree),
         Err(WalkFault::Device) => Err(CheckFault::Device),
         Err(WalkFault::NoMemory) => Err(CheckFault::NoMemory),
-        Err(WalkFault::Finding { code, inode, block }) => Ok(Verdict::Damaged {
-            code,
-            inode,
-            block,
-        }),
+        Err(WalkFault::Finding(finding)) => Ok(Verdict::Damaged(finding)),
         Ok(survey) => match survey.foreign {
-            Some(foreign) => Ok(Verdict::Foreign {
-                reason: foreign.reason,
-                at: foreign.at,
-            }),
+            Some(foreign) => Ok(Verdict::Foreign(foreign)),
             None => Ok(Verdict::Clean {
                 which: survey.which,
                 serial: survey.serial,

@@ -1,6 +1,7 @@
 //! What the checker says of an image.
 
 use qx_geom::Which;
+use qx_view::{Finding, Foreign};
 
 /// What the checker says of an image that has an active area.
 #[derive(Clone, Copy, Debug, PartialEq, Eq)]
@@ -12,17 +13,10 @@ pub enum Verdict {
         free_blocks: u32,
         free_inodes: u32,
     },
-    /// There is a tree, but it isn't laid out as this project writes it: the first reason, 1 to 7, and the least number to which it applies.
-    Foreign {
-        reason: u8,
-        at: u64,
-    },
-    /// The first test that fails: its code, 1 to 15, the inode under the walk (0 for root nodes) and the block in question, or 4294967295.
-    Damaged {
-        code: u8,
-        inode: u32,
-        block: u32,
-    },
+    /// There is a tree, but it isn't laid out as this project writes it: the first reason.
+    Foreign(Foreign),
+    /// The first test that fails.
+    Damaged(Finding),
 }
 
 /// Why there is no verdict.

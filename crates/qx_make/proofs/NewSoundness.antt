@@ -15,6 +15,7 @@ use Rattle.qx_geom.proofs.BlockSizes.{block_size-bounds}
 use Rattle.qx_geom.proofs.VolumeNumbers.{IsGeometry-keeps}
 use Rattle.qx_nodes.specs.BlockMap.{BlockMap}
 use Rattle.qx_super.specs.Superblock.{Superblock}
+use Rattle.qx_view.specs.declared.reasons.Reason.TheVariants as reasons
 use Rattle.qx_view.specs.Images.{Roots, inode_places}
 use Rattle.qx_view.specs.Walk.{inode_root}
 use Rattle.qx_view.specs.Sound.{are_counts_right, are_zero, bad_long_name, bit_differs, fails_dots, fails_inodes, fails_nodes, fails_tail, first_some, geometry_if, has_tail, has_system_trees, is_same_root, is_special_inode, is_written_by, last_finding, last_with, outer_blocks, reason_at, reason_of, reason_with, reasons_in, tail_finding, written_geometry}
@@ -107,7 +108,7 @@ module _ (v : NewBlocks) (which : Which) where
         let names : bad_long_name m r (1 ∷ []) ≡ None = no_long_names v which in
         ap (λ o. reason_with m s which o) (written_is len e)
         ∙ ap (λ reached. first_some (reasons_in m s g which r (outer_blocks m r) reached)) (walked_is v which)
-        ∙ (λ i. first_some (reason_at 2 (halves_ours i) ∷ reason_at 3 (bits_ours i) ∷ reason_at 4 (nodes i) ∷ reason_at 5 (dots i) ∷ reason_at 6 (inodes i) ∷ reason_at 7 (names i) ∷ []))
+        ∙ (λ i. first_some (reason_at reasons.Halves (halves_ours i) ∷ reason_at reasons.Bitmap (bits_ours i) ∷ reason_at reasons.Nodes (nodes i) ∷ reason_at reasons.Dots (dots i) ∷ reason_at reasons.Inodes (inodes i) ∷ reason_at reasons.LongNames (names i) ∷ []))
 
     -- ---- counts
 

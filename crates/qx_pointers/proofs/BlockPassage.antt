@@ -11,6 +11,7 @@ use Rattle.qx_geom.specs.Pointer.{absent, per_block}
 use Rattle.qx_nodes.specs.BlockMap.{BlockMap, word}
 use Rattle.qx_nodes.specs.Visits.{Visit, is_leaf, visits_under}
 use Rattle.qx_nodes.specs.ForeignNodes.{is_stray_under}
+use Rattle.qx_view.specs.declared.findings.Code.TheVariants as codes
 use Rattle.qx_view.specs.Walk.{Met, Test, Tested, visit_tests}
 use Rattle.qx_pointers.proofs.PassedTests.{goes_as, goes_fails, goes_then}
 use Rattle.qx_pointers.proofs.PointerVisits.{AreOf, Begins, Meets, are_of, begins, block_at, meets_absent, meets_block, meets_stray, parts_of}
@@ -23,9 +24,9 @@ use Rattle.qx_pointers.specs.Marks.{GoesThrough}
 use Rattle.qx_pointers.specs.Parts.{IsSeen, has_bare_under, is_end, kept_leaves, nothing, place_of}
 use Rattle.qx_pointers.specs.Passage.{Sees, bare_beside, strays_beside, visits_beside}
 
--- codes 2 and 3 at a pointer
+-- the tests of a pointer
 abbrev pub pointer_tests : ℕ → ℕ → ℕ → List Test
-pointer_tests inode count p = Tested 2 inode p (nat_lt p count) ∷ Met inode p ∷ []
+pointer_tests inode count p = Tested codes.Pointer inode p (nat_lt p count) ∷ Met inode p ∷ []
 
 -- no leaf among these visits
 no_leaf : (visits : List Visit) → nat_eq (length (filter is_leaf visits)) 0 ≡ not (list_any is_leaf visits)

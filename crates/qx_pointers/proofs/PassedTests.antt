@@ -2,8 +2,9 @@
 use Rattle.std.proofs.Common.{◌≡◌, ℕ, List, [], ◌∷◌, ◌++◌, refl, sym, ◌∙◌, ap, subst}
 use Rattle.std.specs.Prelude.{Option, Result, Ok, Err, OnOk}
 use Rattle.qx_blockset.specs.Members.{Members}
+use Rattle.qx_view.specs.declared.findings.Finding.{Finding}
 use Rattle.qx_view.proofs.TestOrder.{first_failing-append, or_else}
-use Rattle.qx_view.specs.Walk.{Finding, Test, first_failing, gone_through, met_after}
+use Rattle.qx_view.specs.Walk.{Test, first_failing, gone_through, met_after}
 use Rattle.qx_pointers.specs.declared.halt.Halt.{Halt}
 use Rattle.qx_pointers.specs.declared.halt.Halt.TheVariants as halts
 use Rattle.qx_pointers.specs.Halts.{Answers, HaltsAt}
@@ -16,7 +17,7 @@ gone-append met (a ∷ as') bs = gone-append (met_after met a) as' bs
 
 -- a halt at a finding is one at it or else another
 pub halts_more : (halt : Halt) (f o : Option Finding) → HaltsAt f halt → HaltsAt (or_else f o) halt
-halts_more (halts.Finding code inode block) f o e = ap (λ z. or_else z o) e
+halts_more (halts.Finding found) f o e = ap (λ z. or_else z o) e
 halts_more halts.Device f o e = tt
 halts_more halts.NoMemory f o e = tt
 

@@ -7,6 +7,8 @@ use Rattle.qx_geom.specs.declared.root.Root.{Root}
 use Rattle.qx_nodes.specs.BlockMap.{BlockMap}
 use Rattle.qx_nodes.specs.Leaves.{leaves_below}
 use Rattle.qx_nodes.specs.Visits.{is_leaf, visits_of}
+use Rattle.qx_view.specs.declared.findings.Code.TheVariants as codes
+use Rattle.qx_view.specs.declared.findings.Code.{Code}
 use Rattle.qx_view.specs.Walk.{Test, Tested, first_failing, node_tests}
 use Rattle.qx_pointers.proofs.BareBlocks.{bare_of}
 use Rattle.qx_pointers.proofs.SeenParts.{tests_at}
@@ -20,7 +22,7 @@ use Rattle.qx_pointers.specs.Parts.{IsSeen, IsWhole, end_of, kept_leaves}
 use Rattle.qx_pointers.specs.Passage.{Sees, bare_beside, strays_beside, visits_beside}
 
 -- a test that passes, and then others
-goes_on : (code inode block : ℕ) (fits : Bool) (tests : List Test) (r : Result Part Halt) (a b : Members) → fits ≡ true → GoesThrough tests r a b → GoesThrough (Tested code inode block fits ∷ tests) r a b
+goes_on : (code : Code) (inode block : ℕ) (fits : Bool) (tests : List Test) (r : Result Part Halt) (a b : Members) → fits ≡ true → GoesThrough tests r a b → GoesThrough (Tested code inode block fits ∷ tests) r a b
 goes_on code inode block fits tests r a b e p = record {
   answer = λ met marks. subst (λ o. Answers o r) (sym (ap (λ z. if z then first_failing met tests else Some (record { code = code; inode = inode; block = block })) e)) (p.answer met marks);
   marks = λ met marks. p.marks met marks;
@@ -37,7 +39,7 @@ module _ (m : BlockMap) (visitor : Visitor) (node : Root) (last : ℕ) (below : 
 
   -- its tests were gone through
   pub node_gone : (fits : Bool) (r : Result Part Halt) (a b : Members) (xs ys : List LeafPlace) → fits ≡ true → SeesNode r a b xs ys → GoesThrough (node_tests m visitor.inode node fits) r a b
-  node_gone fits r a b xs ys e u = goes_on 1 visitor.inode absent fits (tests_at m visitor.inode (visits_of m node)) r a b e (subst (λ z. GoesThrough (tests_at m visitor.inode z) r a b) visits_are u.tests)
+  node_gone fits r a b xs ys e u = goes_on codes.Levels visitor.inode absent fits (tests_at m visitor.inode (visits_of m node)) r a b e (subst (λ z. GoesThrough (tests_at m visitor.inode z) r a b) visits_are u.tests)
 
   -- what is seen of it
   pub node_seen : (part : Part) (a b : Members) (xs ys : List LeafPlace) → 0 < per_block m.size → SeesNode (Ok part) a b xs ys → IsWhole m node part

@@ -1,13 +1,13 @@
 -- What an answer of a part of the walk says.
 use Rattle.std.specs.Prelude.{◌≡◌, ◌≤◌, ℕ, Result, Ok, Err, Option, Some, None}
 use Rattle.qx_outside.specs.Causes.{Rose}
-use Rattle.qx_view.specs.Walk.{Finding}
 use Rattle.qx_pointers.specs.declared.halt.Halt.{Halt}
 use Rattle.qx_pointers.specs.declared.halt.Halt.TheVariants as halts
+use Rattle.qx_view.specs.declared.findings.Finding.{Finding}
 
 -- the walk halts at this finding, if it halts at one
 abbrev pub HaltsAt : Option Finding → Halt → Type 0
-HaltsAt f (halts.Finding code inode block) = f ≡ Some (record { code = code; inode = inode; block = block })
+HaltsAt f (halts.Finding found) = f ≡ Some found
 HaltsAt f halts.Device = Unit {0}
 HaltsAt f halts.NoMemory = Unit {0}
 

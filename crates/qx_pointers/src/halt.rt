@@ -3,13 +3,14 @@ ghost use Rattle.std.specs.Prelude.{◌≡◌};
 ghost use Rattle.qx_pointers.specs.declared.halt.Halt.TheVariants as halts;
 
 use qx_outside::Failed;
+use qx_view::Finding;
 use std::alloc::AllocError;
 
 /// Why a walk ends before its end.
 #[derive(Clone, Copy, Debug, PartialEq, Eq)]
 pub enum Halt {
-    /// A test failed: its code, the inode under the walk (0 for root nodes) and the block in question, or `ABSENT`.
-    Finding { code: u8, inode: u32, block: u32 },
+    /// A test failed.
+    Finding(Finding),
     /// A device call failed.
     Device,
     /// There was no memory for what the walk keeps.

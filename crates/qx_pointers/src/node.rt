@@ -16,6 +16,7 @@ use crate::{Halt, Shape};
 use qx_blockset::BlockSet;
 use qx_geom::{ABSENT, Root};
 use qx_outside::Dev;
+use qx_view::{Code, Finding};
 
 /// The greatest size of a node, in bytes.
 const MOST_BYTES: u64 = 1 << 48;
@@ -133,11 +134,11 @@ pub fn walk_node<D: Dev>(
     ensures cause { IsCaused (D.outside host.old).dev_faults (D.outside host.new).dev_faults result }
 {
     if !visitor.fits(node) {
-        return Err(Halt::Finding {
-            code: 1,
+        return Err(Halt::Finding(Finding {
+            code: Code::Levels,
             inode: visitor.inode,
             block: ABSENT,
-        });
+        }));
     }
     let last = node.size.div_ceil(u64::from(visitor.shape.blocksize));
     let first = Position {

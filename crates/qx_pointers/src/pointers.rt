@@ -5,6 +5,7 @@ ghost use Rattle.qx_geom.specs.Pointer.{per_block};
 ghost use Rattle.qx_nodes.specs.BlockMap.{BlockMap};
 ghost use Rattle.qx_nodes.specs.Visits.{visits_under};
 ghost use Rattle.qx_nodes.specs.ForeignNodes.{is_stray_under};
+ghost use Rattle.qx_view.specs.declared.findings.Code.TheVariants as codes;
 ghost use Rattle.qx_view.specs.Walk.{Test, Tested, Met};
 ghost use Rattle.qx_pointers.specs.declared.halt.Halt.TheVariants as halts;
 ghost use Rattle.qx_pointers.specs.Halts.{IsCaused};
@@ -18,6 +19,7 @@ use crate::{Halt, LeafPlace, Part, Visitor};
 use qx_blockset::BlockSet;
 use qx_geom::ABSENT;
 use qx_outside::Dev;
+use qx_view::{Code, Finding};
 
 /// Where a pointer leads: to block `index` of a level.
 #[derive(Clone, Copy)]
@@ -140,24 +142,24 @@ fn visit<D: Dev>(
 /// Tests that a pointer leads to a block that wasn't met before, and marks it as met.
 fn mark(visitor: &Visitor, block: u32, met: &mut BlockSet) -> Result<(), Halt>
     requires { limit_of met.old ≡ visitor.now.shape.count }
-    ensures tests { GoesThrough (Tested 2 visitor.now.inode block (nat_lt block visitor.now.shape.count) ∷ Met visitor.now.inode block ∷ []) result met.old met.new }
+    ensures tests { GoesThrough (Tested codes.Pointer visitor.now.inode block (nat_lt block visitor.now.shape.count) ∷ Met visitor.now.inode block ∷ []) result met.old met.new }
     ensures below { OnOk result (block < visitor.now.shape.count) }
     ensures limit { limit_of met.new ≡ limit_of met.old }
     ensures cause { (faults : ℕ) → IsCaused faults faults result }
 {
     if block >= visitor.shape.count {
-        return Err(Halt::Finding {
-            code: 2,
+        return Err(Halt::Finding(Finding {
+            code: Code::Pointer,
             inode: visitor.inode,
             block,
-        });
+        }));
     }
     if met.has(block) {
-        return Err(Halt::Finding {
-            code: 3,
+        return Err(Halt::Finding(Finding {
+            code: Code::Twice,
             inode: visitor.inode,
             block,
-        });
+        }));
     }
     met.insert(block);
     Ok(())

@@ -28,7 +28,7 @@ impl InodeTable {
     ghost use Rattle.qx_nodes.specs.BlockMap.{BlockMap};
     ghost use Rattle.qx_view.specs.Images.{inode_bytes, inode_of, places_in};
     ghost use Rattle.qx_view.specs.Sound.{are_zero, has_tail};
-    ghost use Rattle.qx_view.specs.Walk.{Finding};
+    ghost use Rattle.qx_view.specs.declared.findings.Finding.{Finding};
     ghost use Rattle.qx_outside.specs.Causes.{HasCause};
     ghost use Rattle.qx_pointers.specs.Halts.{HaltsAt, IsCaused};
     ghost use Rattle.qx_pointers.specs.Parts.{IsPlaced};

@@ -15,8 +15,8 @@ use Rattle.qx_top.specs.Run.{GivesPartOf, ReportsVerdict, Says, code_of}
 pub report_of_verdict-is : (img : List ℕ) (verdict : Answer) → IsVerdict img verdict → report_of_verdict verdict ≡ check_report img
 unfolding check_report
 report_of_verdict-is img (answers.Clean which serial free_blocks free_inodes) (s, is, same_serial, same_blocks, same_inodes) = rw (same_serial, same_blocks, same_inodes) (sym (ap verdict_report is))
-report_of_verdict-is img (answers.Foreign reason at) is = sym (ap verdict_report is)
-report_of_verdict-is img (answers.Damaged code inode block) is = sym (ap verdict_report is)
+report_of_verdict-is img (answers.Foreign why) is = sym (ap verdict_report is)
+report_of_verdict-is img (answers.Damaged found) is = sym (ap verdict_report is)
 
 module _ (status : ℕ) (old mid new : Outside)
     (before : IsTrue mid.tells → IsTrue old.tells) (same : IsTrue mid.tells → mid.history ≡ old.history) where
@@ -68,9 +68,9 @@ module _ (status : ℕ) (old mid new : Outside)
   unfolding check_report
   says_answer (Ok (answers.Clean which serial free_blocks free_inodes)) is device s =
       says_report _ (λ t. report_of_verdict-is (bytes_of old.history) (answers.Clean which serial free_blocks free_inodes) (is t)) (omega arith) (omega arith) s
-  says_answer (Ok (answers.Foreign reason at)) is device s = says_report _ (λ t. report_of_verdict-is (bytes_of old.history) (answers.Foreign reason at) (is t)) (omega arith) (omega arith) s
-  says_answer (Ok (answers.Damaged code inode block)) is device s =
-      says_report _ (λ t. report_of_verdict-is (bytes_of old.history) (answers.Damaged code inode block) (is t)) (omega arith) (omega arith) s
+  says_answer (Ok (answers.Foreign why)) is device s = says_report _ (λ t. report_of_verdict-is (bytes_of old.history) (answers.Foreign why) (is t)) (omega arith) (omega arith) s
+  says_answer (Ok (answers.Damaged found)) is device s =
+      says_report _ (λ t. report_of_verdict-is (bytes_of old.history) (answers.Damaged found) (is t)) (omega arith) (omega arith) s
   says_answer (Err faults.NoVolume) is device s = says_report (report_of_answer (Err faults.NoVolume)) (λ t. sym (ap verdict_report (is t))) (omega arith) (omega arith) s
   says_answer (Err faults.Disagree) is device s = says_report (report_of_answer (Err faults.Disagree)) (λ t. sym (ap verdict_report (is t))) (omega arith) (omega arith) s
   says_answer (Err faults.Device) is device s = says_fault (device refl) s

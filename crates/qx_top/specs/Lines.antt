@@ -17,6 +17,9 @@ use Rattle.qx_super.specs.Superblock.{Superblock}
 use Rattle.qx_super.specs.Active.{active_area, active_super, first_read, second_read, pick_of, super_of_pick}
 use Rattle.qx_top.specs.declared.status.Status.{Status}
 use Rattle.qx_top.specs.declared.status.Status.TheVariants.{Done, BadImage, DeviceFault, NoMemory}
+use Rattle.qx_view.specs.declared.findings.Finding.{Finding}
+use Rattle.qx_view.specs.declared.reasons.Foreign.{Foreign as Why}
+use Rattle.qx_view.specs.Numbers.{code_number, reason_number}
 use Rattle.qx_view.specs.Sound.{Clean, Damaged, Disagree, Foreign, NoVolume, Verdict, verdict_of}
 
 -- what is said, and how the run then ends
@@ -62,13 +65,14 @@ unfoldable pub clean_line : Which → ℕ → ℕ → ℕ → List ℕ
 clean_line which serial free_blocks free_inodes =
     codes "clean area " ++ decimal (area_number which) ++ codes " serial " ++ decimal serial ++ codes " free blocks " ++ decimal free_blocks ++ codes " free inodes " ++ decimal free_inodes ++ codes "\n"
 
--- the line about a foreign image: the reason's number, and the least number to which it applies
-unfoldable pub foreign_line : ℕ → ℕ → List ℕ
-foreign_line reason at = codes "foreign " ++ decimal reason ++ codes " at " ++ decimal at ++ codes "\n"
+-- the line about a foreign image: the reason's number, and where it applies first
+unfoldable pub foreign_line : Why → List ℕ
+foreign_line why = codes "foreign " ++ decimal (reason_number why.reason) ++ codes " at " ++ decimal why.at ++ codes "\n"
 
--- the line about a damaged image: the code of the test that fails, the inode under the walk and the block in question
-unfoldable pub damaged_line : ℕ → ℕ → ℕ → List ℕ
-damaged_line code inode block = codes "damaged " ++ decimal code ++ codes " inode " ++ decimal inode ++ codes " block " ++ decimal block ++ codes "\n"
+-- the line about a damaged image: the number of the test that fails, the inode under the walk and the block in question
+unfoldable pub damaged_line : Finding → List ℕ
+damaged_line found =
+    codes "damaged " ++ decimal (code_number found.code) ++ codes " inode " ++ decimal found.inode ++ codes " block " ++ decimal found.block ++ codes "\n"
 
 -- the line for a device call that failed
 abbrev pub device_fault : List ℕ
@@ -82,8 +86,8 @@ out_of_memory = codes "out of memory\n"
 abbrev pub verdict_report : Verdict → Report
 verdict_report NoVolume = refused (codes "no volume\n")
 verdict_report Disagree = refused (codes "disagree\n")
-verdict_report (Damaged f) = refused (damaged_line f.code f.inode f.block)
-verdict_report (Foreign why) = record { text = foreign_line why.reason why.at; status = Done }
+verdict_report (Damaged found) = refused (damaged_line found)
+verdict_report (Foreign why) = record { text = foreign_line why; status = Done }
 verdict_report (Clean which s) = record { text = clean_line which s.serial s.free_blocks s.free_inodes; status = Done }
 
 -- what is said of an image that is checked
@@ -93,8 +97,8 @@ check_report img = verdict_report (verdict_of img)
 -- what is said of a verdict that the checker answered
 abbrev pub report_of_verdict : Answer → Report
 report_of_verdict (answers.Clean which serial free_blocks free_inodes) = record { text = clean_line which serial free_blocks free_inodes; status = Done }
-report_of_verdict (answers.Foreign reason at) = record { text = foreign_line reason at; status = Done }
-report_of_verdict (answers.Damaged code inode block) = refused (damaged_line code inode block)
+report_of_verdict (answers.Foreign why) = record { text = foreign_line why; status = Done }
+report_of_verdict (answers.Damaged found) = refused (damaged_line found)
 
 -- what is said of its answer
 abbrev pub report_of_answer : Result Answer CheckFault → Report

@@ -27,10 +27,8 @@ fn report_on_verdict(verdict: Verdict) -> Report
             line_of_clean(which, serial, free_blocks, free_inodes),
             Status::Done,
         ),
-        Verdict::Foreign { reason, at } => Report::new(line_of_foreign(reason, at), Status::Done),
-        Verdict::Damaged { code, inode, block } => {
-            Report::new(line_of_damaged(code, inode, block), Status::BadImage)
-        }
+        Verdict::Foreign(foreign) => Report::new(line_of_foreign(foreign), Status::Done),
+        Verdict::Damaged(finding) => Report::new(line_of_damaged(finding), Status::BadImage),
     }
 }
 

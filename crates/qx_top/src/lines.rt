@@ -9,6 +9,7 @@ use qx_fields::Order;
 use qx_geom::{GeomFault, Which};
 use qx_make::Made;
 use qx_super::SuperView;
+use qx_view::{Finding, Foreign};
 
 /// Room for the longest line, that about an area: 54 bytes of words, and five numbers that count as 20 digits each.
 pub type Line = ArrayString<160>;
@@ -74,30 +75,30 @@ pub fn line_of_clean(which: Which, serial: u64, free_blocks: u32, free_inodes: u
 
 /// The line about a foreign image: the reason's number, and the least number to which it applies.
 #[tactic(auto, unfolding(crate::specs::Lines::foreign_line))]
-pub fn line_of_foreign(reason: u8, at: u64) -> Line
-    ensures { result.bytes ≡ foreign_line reason at }
+pub fn line_of_foreign(foreign: Foreign) -> Line
+    ensures { result.bytes ≡ foreign_line foreign }
 {
     let mut line = Line::new();
     line.push_str("foreign ");
-    push_number(&mut line, u64::from(reason));
+    push_number(&mut line, u64::from(foreign.reason.number()));
     line.push_str(" at ");
-    push_number(&mut line, at);
+    push_number(&mut line, foreign.at);
     line.push_str("\n");
     line
 }
 
-/// The line about a damaged image: the code of the test that fails, the inode under the walk and the block in question.
+/// The line about a damaged image: the number of the test that fails, the inode under the walk and the block in question.
 #[tactic(auto, unfolding(crate::specs::Lines::damaged_line))]
-pub fn line_of_damaged(code: u8, inode: u32, block: u32) -> Line
-    ensures { result.bytes ≡ damaged_line code inode block }
+pub fn line_of_damaged(finding: Finding) -> Line
+    ensures { result.bytes ≡ damaged_line finding }
 {
     let mut line = Line::new();
     line.push_str("damaged ");
-    push_number(&mut line, u64::from(code));
+    push_number(&mut line, u64::from(finding.code.number()));
     line.push_str(" inode ");
-    push_number(&mut line, u64::from(inode));
+    push_number(&mut line, u64::from(finding.inode));
     line.push_str(" block ");
-    push_number(&mut line, u64::from(block));
+    push_number(&mut line, u64::from(finding.block));
     line.push_str("\n");
     line
 }

@@ -25,6 +25,8 @@ use Rattle.qx_nodes.specs.Visits.{Visit, visits_of}
 use Rattle.qx_super.specs.Active.{active_area, active_super}
 use Rattle.qx_super.specs.Superblock.{Superblock}
 use Rattle.qx_super.specs.declared.choice.Pick.TheVariants as picks
+use Rattle.qx_view.specs.declared.reasons.Reason.TheVariants as reasons
+use Rattle.qx_view.specs.declared.reasons.Reason.{Reason}
 use Rattle.qx_view.proofs.AlikeLists.{member_passes}
 use Rattle.qx_view.proofs.ImageTrees.{HasSize-image_blocks}
 use Rattle.qx_view.proofs.OuterNodes.{inode_outer, longfile_outer, outer_has}
@@ -78,12 +80,12 @@ first_none None os e = refl
 first_none (Some x) os e = absurd (cc)
 
 -- a reason that doesn't apply has no number to which it does
-pub reason_none : (reason : ℕ) (o : Option ℕ) → reason_at reason o ≡ None → o ≡ None
+pub reason_none : (reason : Reason) (o : Option ℕ) → reason_at reason o ≡ None → o ≡ None
 reason_none reason None e = refl
 reason_none reason (Some at) e = absurd (cc)
 
 -- a test is passed where its reason doesn't apply
-test_passed : (reason : ℕ) (b : Bool) → reason_at reason (if b then None else Some 0) ≡ None → b ≡ true
+test_passed : (reason : Reason) (b : Bool) → reason_at reason (if b then None else Some 0) ≡ None → b ≡ true
 test_passed reason true e = refl
 test_passed reason false e = absurd (cc)
 
@@ -91,7 +93,7 @@ test_passed reason false e = absurd (cc)
 pub halves_right : (m : BlockMap) (s : Superblock) (g : Geometry) (which : Which) → first_some (reasons_in m s g which (main_roots s) (outer_blocks m (main_roots s)) (walked_inodes m (main_roots s))) ≡ None
     → (is_laid_out m s g which ≡ true) × (list_all (λ b. nat_le (2 * g.half) b) (outer_blocks m (main_roots s)) ≡ true)
 halves_right m s g which none =
-    let both : (is_laid_out m s g which && list_all (λ b. nat_le (2 * g.half) b) (outer_blocks m (main_roots s))) ≡ true = test_passed 2 _ (first_none _ _ none) in
+    let both : (is_laid_out m s g which && list_all (λ b. nat_le (2 * g.half) b) (outer_blocks m (main_roots s))) ≡ true = test_passed reasons.Halves _ (first_none _ _ none) in
     (and_left (is_laid_out m s g which) _ both, and_right (is_laid_out m s g which) _ both)
 
 -- ---- the trees of a half

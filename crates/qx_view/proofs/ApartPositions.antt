@@ -17,6 +17,7 @@ use Rattle.qx_nodes.specs.Content.{HasSize, levels_fit, root_fits}
 use Rattle.qx_nodes.specs.Visits.{Visit, visits_of}
 use Rattle.qx_records.specs.InodeRecord.{kind_of}
 use Rattle.qx_records.specs.NameRecord.{Bad, Long, RawRecord, Short, Unused}
+use Rattle.qx_view.specs.declared.findings.Code.TheVariants as codes
 use Rattle.qx_view.proofs.PassingTests.{NodePasses, Passing, node_passes, passing_each, passing_parts}
 use Rattle.qx_view.proofs.TestOrder.{met_once}
 use Rattle.qx_view.proofs.TreeFound.{TakenWith, body_found, entry_found, in_entry, parent_in, tree_found, tree_places}
@@ -108,7 +109,7 @@ met_further m k (node ∷ nodes) =
 met_row : (m : BlockMap) (r : Roots) (at : Place) (names : List (List ℕ)) (listed : List ℕ) (n : ℕ) (name : List ℕ) → met_of (row_tests m r at names listed n name) ≡ []
 met_row m r at names listed n name = go (is_dots name)
   where
-    go : (b : Bool) → met_of (if b then Tested 12 at.inode at.block (n == (if length name == 1 then at.inode else at.parent)) ∷ [] else Tested 4 at.inode at.block (has_inode r.inodes n) ∷ Tested 5 at.inode at.block (is_some (kind_of (inode_mode m r n))) ∷ Tested 13 at.inode at.block (not (is_directory_inode m r n && is_in listed n)) ∷ []) ≡ []
+    go : (b : Bool) → met_of (if b then Tested codes.Dots at.inode at.block (n == (if length name == 1 then at.inode else at.parent)) ∷ [] else Tested codes.NoInode at.inode at.block (has_inode r.inodes n) ∷ Tested codes.Kind at.inode at.block (is_some (kind_of (inode_mode m r n))) ∷ Tested codes.DirTwice at.inode at.block (not (is_directory_inode m r n && is_in listed n)) ∷ []) ≡ []
     go true = refl
     go false = refl
 

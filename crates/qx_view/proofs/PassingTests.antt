@@ -16,11 +16,14 @@ use Rattle.qx_records.specs.InodeRecord.{kind_of}
 use Rattle.qx_records.specs.NameRecord.{Bad, Long, RawRecord, Short}
 use Rattle.qx_records.specs.NameRecord as records
 use Rattle.qx_records.specs.NameSum.{sum_fits}
+use Rattle.qx_view.specs.declared.findings.Code.TheVariants as codes
+use Rattle.qx_view.specs.declared.findings.Code.{Code}
+use Rattle.qx_view.specs.declared.findings.Finding.{Finding}
 use Rattle.qx_view.proofs.TestOrder.{first_failing-append, if_none, or_else}
 use Rattle.qx_view.specs.Walk.{gone_through}
 use Rattle.qx_view.specs.Images.{Roots, has_inode, long_name, raw_of, record_block}
 use Rattle.qx_view.specs.Reading.{is_plain, long_slot, slot_of}
-use Rattle.qx_view.specs.Walk.{Finding, Met, Place, Test, Tested, first_failing, inode_mode, is_directory_inode, named_inode, node_tests, record_tests, records_tests, row_tests, slot_name, visit_tests}
+use Rattle.qx_view.specs.Walk.{Met, Place, Test, Tested, first_failing, inode_mode, is_directory_inode, named_inode, node_tests, record_tests, records_tests, row_tests, slot_name, visit_tests}
 
 -- no member of the list fails, whatever was met before
 pub record Passing (es : List Test) : Type 0 where
@@ -39,7 +42,7 @@ passing_parts as' bs p =
     (record { met = p.met; none = both.0 }, record { met = gone_through p.met as'; none = both.1 })
 
 -- a test and the rest
-pub passing_tested : (code inode block : ℕ) (b : Bool) (es : List Test) → Passing (Tested code inode block b ∷ es) → (b ≡ true) × Passing es
+pub passing_tested : (code : Code) (inode block : ℕ) (b : Bool) (es : List Test) → Passing (Tested code inode block b ∷ es) → (b ≡ true) × Passing es
 passing_tested code inode block b es p =
     let both : (b ≡ true) × (first_failing p.met es ≡ None) = if_none b (first_failing p.met es) (record { code = code; inode = inode; block = block }) p.none in
     (both.0, record { met = p.met; none = both.1 })
@@ -59,10 +62,10 @@ pub record NodePasses (m : BlockMap) (node : Root) (fits : Bool) : Type 0 where
 -- a node's tests
 pub node_passes : (m : BlockMap) (inode : ℕ) (node : Root) (fits : Bool) → Passing (node_tests m inode node fits) → NodePasses m node fits
 node_passes m inode node fits p =
-    let parts : (fits ≡ true) × Passing (flat_map (λ v. visit_tests m inode v) (visits_of m node)) = passing_tested 1 inode absent fits _ p in
+    let parts : (fits ≡ true) × Passing (flat_map (λ v. visit_tests m inode v) (visits_of m node)) = passing_tested codes.Levels inode absent fits _ p in
     record {
       fit = parts.0;
-      undamaged = λ v c. omega (arith, leb-true (suc v.block) m.count (passing_tested 2 inode v.block (nat_lt v.block m.count) (Met inode v.block ∷ []) (passing_each (λ v. visit_tests m inode v) (visits_of m node) v parts.1 c)).0);
+      undamaged = λ v c. omega (arith, leb-true (suc v.block) m.count (passing_tested codes.Pointer inode v.block (nat_lt v.block m.count) (Met inode v.block ∷ []) (passing_each (λ v. visit_tests m inode v) (visits_of m node) v parts.1 c)).0);
     }
 
 -- a record whose tests pass, where these names and inodes came before
@@ -77,26 +80,26 @@ pub record RowPasses (m : BlockMap) (r : Roots) (d p : ℕ) (names : List (List 
 -- a row's tests
 pub row_passes : (m : BlockMap) (r : Roots) (at : Place) (names : List (List ℕ)) (listed : List ℕ) (n : ℕ) (name : List ℕ) → Passing (row_tests m r at names listed n name) → RowPasses m r at.inode at.parent names listed n name
 row_passes m r at names listed n name p =
-    let a : (is_plain name ≡ true) × Passing _ = passing_tested 11 at.inode at.block (is_plain name) _ p in
-    let b : (not (list_any (λ other. bytes_eq other name) names) ≡ true) × Passing _ = passing_tested 10 at.inode at.block (not (list_any (λ other. bytes_eq other name) names)) _ a.1 in
+    let a : (is_plain name ≡ true) × Passing _ = passing_tested codes.NameByte at.inode at.block (is_plain name) _ p in
+    let b : (not (list_any (λ other. bytes_eq other name) names) ≡ true) × Passing _ = passing_tested codes.SameName at.inode at.block (not (list_any (λ other. bytes_eq other name) names)) _ a.1 in
     go (is_dots name) refl a.0 (not_true _ b.0) b.1
   where
     go : (d : Bool) → is_dots name ≡ d → is_plain name ≡ true → list_any (λ other. bytes_eq other name) names ≡ false
-        → Passing (if d then Tested 12 at.inode at.block (n == (if length name == 1 then at.inode else at.parent)) ∷ []
-        else Tested 4 at.inode at.block (has_inode r.inodes n) ∷ Tested 5 at.inode at.block (is_some (kind_of (inode_mode m r n))) ∷ Tested 13 at.inode at.block (not (is_directory_inode m r n && is_in listed n)) ∷ [])
+        → Passing (if d then Tested codes.Dots at.inode at.block (n == (if length name == 1 then at.inode else at.parent)) ∷ []
+        else Tested codes.NoInode at.inode at.block (has_inode r.inodes n) ∷ Tested codes.Kind at.inode at.block (is_some (kind_of (inode_mode m r n))) ∷ Tested codes.DirTwice at.inode at.block (not (is_directory_inode m r n && is_in listed n)) ∷ [])
         → RowPasses m r at.inode at.parent names listed n name
     go true e plain new q = record {
       plain = plain;
       new = new;
-      dots = λ _. eqb-true _ _ (passing_tested 12 at.inode at.block (n == (if length name == 1 then at.inode else at.parent)) [] q).0;
+      dots = λ _. eqb-true _ _ (passing_tested codes.Dots at.inode at.block (n == (if length name == 1 then at.inode else at.parent)) [] q).0;
       there = λ f. absurd (cc);
       kind = λ f. absurd (cc);
       once = λ f. absurd (cc);
     }
     go false e plain new q =
-        let x : (has_inode r.inodes n ≡ true) × Passing (Tested 5 at.inode at.block (is_some (kind_of (inode_mode m r n))) ∷ Tested 13 at.inode at.block (not (is_directory_inode m r n && is_in listed n)) ∷ []) = passing_tested 4 at.inode at.block (has_inode r.inodes n) _ q in
-        let y : (is_some (kind_of (inode_mode m r n)) ≡ true) × Passing (Tested 13 at.inode at.block (not (is_directory_inode m r n && is_in listed n)) ∷ []) = passing_tested 5 at.inode at.block (is_some (kind_of (inode_mode m r n))) _ x.1 in
-        let z : (not (is_directory_inode m r n && is_in listed n) ≡ true) × Passing [] = passing_tested 13 at.inode at.block (not (is_directory_inode m r n && is_in listed n)) [] y.1 in
+        let x : (has_inode r.inodes n ≡ true) × Passing (Tested codes.Kind at.inode at.block (is_some (kind_of (inode_mode m r n))) ∷ Tested codes.DirTwice at.inode at.block (not (is_directory_inode m r n && is_in listed n)) ∷ []) = passing_tested codes.NoInode at.inode at.block (has_inode r.inodes n) _ q in
+        let y : (is_some (kind_of (inode_mode m r n)) ≡ true) × Passing (Tested codes.DirTwice at.inode at.block (not (is_directory_inode m r n && is_in listed n)) ∷ []) = passing_tested codes.Kind at.inode at.block (is_some (kind_of (inode_mode m r n))) _ x.1 in
+        let z : (not (is_directory_inode m r n && is_in listed n) ≡ true) × Passing [] = passing_tested codes.DirTwice at.inode at.block (not (is_directory_inode m r n && is_in listed n)) [] y.1 in
         record { plain = plain; new = new; dots = λ t. absurd (cc); there = λ _. x.0; kind = λ _. y.0; once = λ _. not_true (is_directory_inode m r n && is_in listed n) z.0 }
 
 -- what a record that passes says
@@ -107,16 +110,16 @@ SlotPasses m r at names listed (Row n name long) = RowPasses m r at.inode at.par
 -- a record's tests
 pub record_passes : (m : BlockMap) (r : Roots) (at : Place) (names : List (List ℕ)) (listed : List ℕ) (raw : RawRecord) → Passing (record_tests m r at names listed raw) → (s : Slot) × (slot_of m r.longfile raw ≡ Some s) × SlotPasses m r at names listed s
 record_passes m r at names listed records.Unused p = (Unused, refl, tt)
-record_passes m r at names listed (Bad count) p = absurd (let h : (false ≡ true) × Passing [] = passing_tested 7 at.inode at.block false [] p in let e : false ≡ true = h.0 in cc)
-record_passes m r at names listed (Short n name) p = (Row n name None, refl, row_passes m r at names listed n name (passing_tested 7 at.inode at.block true _ p).1)
-record_passes m r at names listed (Long n number sum) p = go (long_name m r.longfile number) (passing_tested 7 at.inode at.block true _ p).1
+record_passes m r at names listed (Bad count) p = absurd (let h : (false ≡ true) × Passing [] = passing_tested codes.Record at.inode at.block false [] p in let e : false ≡ true = h.0 in cc)
+record_passes m r at names listed (Short n name) p = (Row n name None, refl, row_passes m r at names listed n name (passing_tested codes.Record at.inode at.block true _ p).1)
+record_passes m r at names listed (Long n number sum) p = go (long_name m r.longfile number) (passing_tested codes.Record at.inode at.block true _ p).1
   where
-    go : (o : Option (List ℕ)) → Passing (Tested 8 at.inode at.block (is_some o) ∷ Tested 9 at.inode at.block (sum_fits sum (unwrap_or o [])) ∷ row_tests m r at names listed n (unwrap_or o []))
+    go : (o : Option (List ℕ)) → Passing (Tested codes.LongName at.inode at.block (is_some o) ∷ Tested codes.LongSum at.inode at.block (sum_fits sum (unwrap_or o [])) ∷ row_tests m r at names listed n (unwrap_or o []))
         → (s : Slot) × (long_slot n number sum o ≡ Some s) × SlotPasses m r at names listed s
-    go None q = absurd (let h : (false ≡ true) × Passing _ = passing_tested 8 at.inode at.block false _ q in let e : false ≡ true = h.0 in cc)
+    go None q = absurd (let h : (false ≡ true) × Passing _ = passing_tested codes.LongName at.inode at.block false _ q in let e : false ≡ true = h.0 in cc)
     go (Some name) q =
-        let a : (true ≡ true) × Passing (Tested 9 at.inode at.block (sum_fits sum name) ∷ row_tests m r at names listed n name) = passing_tested 8 at.inode at.block true _ q in
-        let b : (sum_fits sum name ≡ true) × Passing (row_tests m r at names listed n name) = passing_tested 9 at.inode at.block (sum_fits sum name) _ a.1 in
+        let a : (true ≡ true) × Passing (Tested codes.LongSum at.inode at.block (sum_fits sum name) ∷ row_tests m r at names listed n name) = passing_tested codes.LongName at.inode at.block true _ q in
+        let b : (sum_fits sum name ≡ true) × Passing (row_tests m r at names listed n name) = passing_tested codes.LongSum at.inode at.block (sum_fits sum name) _ a.1 in
         (Row n name (Some number), ap (λ c. if c then Some (Row n name (Some number)) else None) b.0, row_passes m r at names listed n name b.1)
 
 -- each down passes, where these names and inodes came before the earlier

@@ -28,6 +28,7 @@ use Rattle.qx_records.specs.InodeRecord.{inode_in}
 use Rattle.qx_super.specs.Active.{active_area, active_super}
 use Rattle.qx_super.specs.Superblock.{Superblock}
 use Rattle.qx_super.specs.declared.choice.Pick.TheVariants as picks
+use Rattle.qx_view.specs.declared.reasons.Reason.TheVariants as reasons
 use Rattle.qx_view.proofs.ActiveHalf.{SoundParts, bitmap_leaves_are, halves_right, pointer_held, reason_none, sound_parts}
 use Rattle.qx_view.proofs.AlikeLists.{all_alike, below_members, first_alike}
 use Rattle.qx_view.proofs.ImageTrees.{HasSize-image_blocks}
@@ -78,7 +79,7 @@ module _ (m : BlockMap) (bytes : ℕ → List ℕ) (s : Superblock) (t : Tree) (
   pub reasons_alike : (g : Geometry) (which : Which) → 64 ≤ m.size → leaves_below m s.bitmap ≡ g.bitmap_leaves → ((h : Which) → has_system_trees m g h ≡ has_system_trees (with_bytes m bytes) g h)
       → first_some (reasons_in m s g which (main_roots s) (outer_blocks m (main_roots s)) (walked_inodes m (main_roots s))) ≡ None → first_some (reasons_in (with_bytes m bytes) s g which (main_roots s) (outer_blocks (with_bytes m bytes) (main_roots s)) (walked_inodes (with_bytes m bytes) (main_roots s))) ≡ None
   reasons_alike g which large leaves halves none =
-      let nodes : first_below (fails_nodes m (main_roots s) (walked_inodes m (main_roots s))) (inode_places (main_roots s) + 1) ≡ None = reason_none 4 (first_below (fails_nodes m (main_roots s) (walked_inodes m (main_roots s))) (inode_places (main_roots s) + 1)) (each_none (reasons_in m s g which (main_roots s) (outer_blocks m (main_roots s)) (walked_inodes m (main_roots s))) 2 _ none refl) in
+      let nodes : first_below (fails_nodes m (main_roots s) (walked_inodes m (main_roots s))) (inode_places (main_roots s) + 1) ≡ None = reason_none reasons.Nodes (first_below (fails_nodes m (main_roots s) (walked_inodes m (main_roots s))) (inode_places (main_roots s) + 1)) (each_none (reasons_in m s g which (main_roots s) (outer_blocks m (main_roots s)) (walked_inodes m (main_roots s))) 2 _ none refl) in
       let e2 : (is_laid_out m s g which && list_all (λ b. nat_le (2 * g.half) b) (outer_blocks m (main_roots s))) ≡ (is_laid_out (with_bytes m bytes) s g which && list_all (λ b. nat_le (2 * g.half) b) (outer_blocks m (main_roots s))) =
       λ i. (is_same_root s.bitmap (system_root_of g which true) && (is_same_root s.inode (system_root_of g which false) && (halves First i && halves Second i))) && list_all (λ b. nat_le (2 * g.half) b) (outer_blocks m (main_roots s)) in
       let bitmap = further_agrees m bytes (main_roots s) t size is held 0 s.bitmap refl (and_left _ _ (and_left _ _ is.further_fit)) in
@@ -91,7 +92,7 @@ module _ (m : BlockMap) (bytes : ℕ → List ℕ) (s : Superblock) (t : Tree) (
       let e6 : first_below (fails_inodes m (main_roots s) (walked_inodes m (main_roots s))) (inode_places (main_roots s) + 1) ≡ first_below (fails_inodes (with_bytes m bytes) (main_roots s) (walked_inodes m (main_roots s))) (inode_places (main_roots s) + 1) = first_alike _ _ (inode_places (main_roots s) + 1) (λ n low. fails_inodes_alike m bytes (main_roots s) t size is held n low) in
       let e7 : bad_long_name m (main_roots s) (walked_inodes m (main_roots s)) ≡ bad_long_name (with_bytes m bytes) (main_roots s) (walked_inodes m (main_roots s)) = bad_long_name_alike m bytes (main_roots s) t size is held in
       let same : first_some (reasons_in m s g which (main_roots s) (outer_blocks m (main_roots s)) (walked_inodes m (main_roots s))) ≡ first_some (reasons_in (with_bytes m bytes) s g which (main_roots s) (outer_blocks m (main_roots s)) (walked_inodes m (main_roots s))) =
-      λ i. first_some (reason_at 2 (if e2 i then None else Some 0) ∷ reason_at 3 (e3 i) ∷ reason_at 4 (e4 i) ∷ reason_at 5 (e5 i) ∷ reason_at 6 (e6 i) ∷ reason_at 7 (e7 i) ∷ []) in
+      λ i. first_some (reason_at reasons.Halves (if e2 i then None else Some 0) ∷ reason_at reasons.Bitmap (e3 i) ∷ reason_at reasons.Nodes (e4 i) ∷ reason_at reasons.Dots (e5 i) ∷ reason_at reasons.Inodes (e6 i) ∷ reason_at reasons.LongNames (e7 i) ∷ []) in
       let at_others : first_some (reasons_in (with_bytes m bytes) s g which (main_roots s) (outer_blocks m (main_roots s)) (walked_inodes m (main_roots s))) ≡ first_some (reasons_in (with_bytes m bytes) s g which (main_roots s) (outer_blocks (with_bytes m bytes) (main_roots s)) (walked_inodes (with_bytes m bytes) (main_roots s))) =
       λ i. first_some (reasons_in (with_bytes m bytes) s g which (main_roots s) (outer_alike m bytes (main_roots s) t size is held i) (walked_alike m bytes (main_roots s) t size is held i)) in
       sym (same ∙ at_others) ∙ none

@@ -4,7 +4,9 @@ use Rattle.std.specs.Prelude.{Bool, true, false, ◌&&◌, not, if◌then◌else
 use Rattle.qx_geom.proofs.Members.{in_cases, in_head, in_tail}
 use Rattle.qx_geom.proofs.Truths.{not_so, not_true, true_or_false}
 use Rattle.qx_geom.specs.Lists.{all_differ, is_in}
-use Rattle.qx_view.specs.Walk.{Finding, Met, Test, Tested, finding_at, first_failing, gone_through, met_of, met_after, passes}
+use Rattle.qx_view.specs.declared.findings.Code.TheVariants as codes
+use Rattle.qx_view.specs.declared.findings.Finding.{Finding}
+use Rattle.qx_view.specs.Walk.{Met, Test, Tested, finding_at, first_failing, gone_through, met_of, met_after, passes}
 
 -- the first finding, or else the second
 abbrev pub or_else : Option Finding → Option Finding → Option Finding
@@ -39,7 +41,7 @@ met_once met (Tested code inode block b ∷ es) e =
     let ih : IsMetOnce met es = met_once met es (if_none b (first_failing met es) (record { code = code; inode = inode; block = block }) e).1 in
     record { new = ih.new; once = ih.once }
 met_once met (Met inode block ∷ es) e =
-    let split : (not (is_in met block) ≡ true) × (first_failing (block ∷ met) es ≡ None) = if_none (not (is_in met block)) (first_failing (block ∷ met) es) (record { code = 3; inode = inode; block = block }) e in
+    let split : (not (is_in met block) ≡ true) × (first_failing (block ∷ met) es ≡ None) = if_none (not (is_in met block)) (first_failing (block ∷ met) es) (record { code = codes.Twice; inode = inode; block = block }) e in
     let ih : IsMetOnce (block ∷ met) es = met_once (block ∷ met) es split.1 in
     record {
       new = λ b h. elim (in_cases block b (met_of es) h) [

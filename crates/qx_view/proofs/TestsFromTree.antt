@@ -1,4 +1,4 @@
--- Where the blocks have a tree, each test of the walk passes but those of code 3.
+-- Where the blocks have a tree, each test of the walk passes, but those of blocks that were met before.
 use Rattle.std.proofs.Common.{◌≡◌, ◌≢◌, ℕ, zero, suc, ◌+◌, ◌/◌, ◌<◌, ◌⊎◌, inl, inr, List, [], ◌∷◌, ◌++◌, length, refl, sym, ◌∙◌, ap, subst, arith}
 use Rattle.std.specs.Prelude.{Bool, true, false, ◌&&◌, not, nat_eq, nat_lt, ◌==◌, if◌then◌else◌, Option, Some, None, is_some, option_and_then, unwrap_or, option_to_list, Contains, map, flat_map, filter_map, bytes_eq, slice_get}
 use Rattle.std.specs.List.{list_any}
@@ -18,6 +18,7 @@ use Rattle.qx_records.specs.InodeRecord.{kind_of}
 use Rattle.qx_records.specs.NameRecord.{Bad, Long, RawRecord, Short}
 use Rattle.qx_records.specs.NameRecord as records
 use Rattle.qx_records.specs.NameSum.{sum_fits}
+use Rattle.qx_view.specs.declared.findings.Code.TheVariants as codes
 use Rattle.qx_view.proofs.OneTree.{parent_same}
 use Rattle.qx_view.proofs.TakenInodes.{HasParent, taken_parent}
 use Rattle.qx_view.proofs.TreeFound.{NamedAt, each_self, names_to_slots, slots_to_names}
@@ -51,7 +52,7 @@ none_from met [] all once new = refl
 none_from met (Tested code inode block x ∷ es) all once new =
     ap (λ b. if b then first_failing met es else Some (record { code = code; inode = inode; block = block })) all.0 ∙ none_from met es all.1 once new
 none_from met (Met inode block ∷ es) all once new =
-    ap (λ b. if not b then first_failing (block ∷ met) es else Some (record { code = 3; inode = inode; block = block })) (new block (in_head block (met_of es)))
+    ap (λ b. if not b then first_failing (block ∷ met) es else Some (record { code = codes.Twice; inode = inode; block = block })) (new block (in_head block (met_of es)))
     ∙ none_from (block ∷ met) es all (and_right (not (is_in (met_of es) block)) (all_differ (met_of es)) once)
     (λ b h. not_so (is_in (block ∷ met) b) (λ t. elim (in_cases block b met t) [
       | inl is ↦ true_or_false (is_in (met_of es) block) (subst (λ z. is_in (met_of es) z ≡ true) (sym is) h) (not_true _ (and_left (not (is_in (met_of es) block)) (all_differ (met_of es)) once))
@@ -231,8 +232,8 @@ facts_tail m r d p names listed x slots f = record {
 row_tested : (m : BlockMap) (r : Roots) (at : Place) (names : List (List ℕ)) (listed : List ℕ) (n : ℕ) (name : List ℕ) → RowFact m r at.inode at.parent n name → list_any (λ other. bytes_eq other name) names ≡ false → (is_dots name ≡ false → (is_directory_inode m r n && is_in listed n) ≡ false) → AllTested (row_tests m r at names listed n name)
 row_tested m r at names listed n name f fresh new = (f.plain, (ap (λ b. not b) fresh, go (is_dots name) refl))
   where
-    go : (b : Bool) → is_dots name ≡ b → AllTested (if b then Tested 12 at.inode at.block (n == (if length name == 1 then at.inode else at.parent)) ∷ []
-        else Tested 4 at.inode at.block (has_inode r.inodes n) ∷ Tested 5 at.inode at.block (is_some (kind_of (inode_mode m r n))) ∷ Tested 13 at.inode at.block (not (is_directory_inode m r n && is_in listed n)) ∷ [])
+    go : (b : Bool) → is_dots name ≡ b → AllTested (if b then Tested codes.Dots at.inode at.block (n == (if length name == 1 then at.inode else at.parent)) ∷ []
+        else Tested codes.NoInode at.inode at.block (has_inode r.inodes n) ∷ Tested codes.Kind at.inode at.block (is_some (kind_of (inode_mode m r n))) ∷ Tested codes.DirTwice at.inode at.block (not (is_directory_inode m r n && is_in listed n)) ∷ [])
     go true e = (eq-eqb n _ (f.dots e), tt)
     go false e = (f.there e, (f.kind e, (ap (λ b. not b) (new e), tt)))
 
@@ -255,11 +256,11 @@ record_tested m r at names listed (Short n name) x slots is f =
     (refl, row_tested m r at names listed n name (f.fact 0 n name None here) (f.fresh 0 n name None here) (λ e. and_false (is_directory_inode m r n) (is_in listed n) (λ dir. f.new 0 n (Row n name None) here (not_dots n name None e) dir)))
 record_tested m r at names listed (Long n number sum) x slots is f = (refl, go (long_name m r.longfile number) is)
   where
-    go : (o : Option (List ℕ)) → long_slot n number sum o ≡ Some x → AllTested (Tested 8 at.inode at.block (is_some o) ∷ Tested 9 at.inode at.block (sum_fits sum (unwrap_or o [])) ∷ row_tests m r at names listed n (unwrap_or o []))
+    go : (o : Option (List ℕ)) → long_slot n number sum o ≡ Some x → AllTested (Tested codes.LongName at.inode at.block (is_some o) ∷ Tested codes.LongSum at.inode at.block (sum_fits sum (unwrap_or o [])) ∷ row_tests m r at names listed n (unwrap_or o []))
     go None e = absurd (cc)
     go (Some name) e = by_sum (sum_fits sum name) refl e
       where
-        by_sum : (b : Bool) → sum_fits sum name ≡ b → (if b then Some (Row n name (Some number)) else None) ≡ Some x → AllTested (Tested 8 at.inode at.block true ∷ Tested 9 at.inode at.block (sum_fits sum name) ∷ row_tests m r at names listed n name)
+        by_sum : (b : Bool) → sum_fits sum name ≡ b → (if b then Some (Row n name (Some number)) else None) ≡ Some x → AllTested (Tested codes.LongName at.inode at.block true ∷ Tested codes.LongSum at.inode at.block (sum_fits sum name) ∷ row_tests m r at names listed n name)
         by_sum false h e = absurd (cc)
         by_sum true h e =
             let same : Row n name (Some number) ≡ x = cc in

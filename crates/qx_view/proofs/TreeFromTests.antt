@@ -14,6 +14,7 @@ use Rattle.qx_nodes.specs.BlockMap.{BlockMap}
 use Rattle.qx_nodes.specs.Content.{HasSize, levels_fit}
 use Rattle.qx_records.specs.InodeRecord.{kind_of}
 use Rattle.qx_records.specs.NameRecord as records
+use Rattle.qx_view.specs.declared.findings.Code.TheVariants as codes
 use Rattle.qx_view.proofs.DirectoryTests.{DirectoryFound, IsThere, directory_kind, directory_passes, named_passes, names_in_directory, read_self}
 use Rattle.qx_view.proofs.PassingTests.{NodePasses, Passing, SlotsPass, fresh_directory, names_differ, node_passes, passing_each, passing_parts, passing_tested, row_at}
 use Rattle.qx_view.proofs.TakenInodes.{HasParent, once_within, taken_listed, taken_order, taken_parent}
@@ -47,8 +48,8 @@ module _ (m : BlockMap) (r : Roots) (s : HasSize m) (none : finding_of m r ≡ N
   -- inode 1 is a directory
   top_there : (has_inode r.inodes 1 ≡ true) × (is_directory_inode m r 1 ≡ true)
   top_there =
-      let a : (has_inode r.inodes 1 ≡ true) × Passing (Tested 5 1 absent (is_directory_inode m r 1) ∷ []) = passing_tested 4 1 absent (has_inode r.inodes 1) _ top_parts.1 in
-      (a.0, (passing_tested 5 1 absent (is_directory_inode m r 1) [] a.1).0)
+      let a : (has_inode r.inodes 1 ≡ true) × Passing (Tested codes.Kind 1 absent (is_directory_inode m r 1) ∷ []) = passing_tested codes.NoInode 1 absent (has_inode r.inodes 1) _ top_parts.1 in
+      (a.0, (passing_tested codes.Kind 1 absent (is_directory_inode m r 1) [] a.1).0)
 
   -- the parent with which an inode was taken
   abbrev pub parent_of : ℕ → ℕ
@@ -130,10 +131,10 @@ module _ (m : BlockMap) (r : Roots) (s : HasSize m) (none : finding_of m r ≡ N
       record { levels = p.fit; size = refl; present = refl; body = refl }
   kind_entry n kinds.Link attr u is =
       let node : Root = inode_root m r n in
-      let parts : Passing (node_tests m u.it.inode node (levels_fit m node)) × Passing (Tested 6 u.it.inode absent (not (node.size == 0) && nat_lt node.size 1024) ∷ [])
+      let parts : Passing (node_tests m u.it.inode node (levels_fit m node)) × Passing (Tested codes.LinkSize u.it.inode absent (not (node.size == 0) && nat_lt node.size 1024) ∷ [])
       = passing_parts (node_tests m u.it.inode node (levels_fit m node)) _ (subst (λ k. Passing (kind_tests m r u.it node k)) is (kind_passes n u)) in
       let p : NodePasses m node (levels_fit m node) = node_passes m u.it.inode node (levels_fit m node) parts.0 in
-      let size : (0 < node.size) × (node.size < 1024) = link_size node.size (passing_tested 6 u.it.inode absent (not (node.size == 0) && nat_lt node.size 1024) [] parts.1).0 in
+      let size : (0 < node.size) × (node.size < 1024) = link_size node.size (passing_tested codes.LinkSize u.it.inode absent (not (node.size == 0) && nat_lt node.size 1024) [] parts.1).0 in
       record { levels = p.fit; size = refl; present = refl; body = (refl, size.0, size.1) }
 
   -- what is taken has its entry in the tree

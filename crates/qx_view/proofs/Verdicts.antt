@@ -7,18 +7,20 @@ use Rattle.qx_model.specs.Tree.{Tree}
 use Rattle.qx_nodes.specs.BlockMap.{BlockMap}
 use Rattle.qx_super.specs.Active.{active_area, active_super}
 use Rattle.qx_super.specs.Superblock.{Superblock}
+use Rattle.qx_view.specs.declared.reasons.Foreign.{Foreign as Why}
+use Rattle.qx_view.specs.declared.findings.Finding.{Finding}
 use Rattle.qx_view.proofs.ApartPositions.{tree_is}
 use Rattle.qx_view.proofs.ImageTrees.{HasSize-image_blocks}
 use Rattle.qx_view.proofs.TestsAndTree.{no_test_fails}
 use Rattle.qx_view.proofs.TreeFound.{tree_found}
 use Rattle.qx_view.specs.Images.{Roots, image_blocks, main_roots}
-use Rattle.qx_view.specs.Sound.{Clean, Damaged, Disagree, Foreign, IsDamaged, IsFinding, IsForeign, IsSound, NoVolume, Reason, Verdict, last_finding, reason_of, verdict_at, verdict_by, verdict_of, verdict_with}
-use Rattle.qx_view.specs.Walk.{Finding, finding_of}
+use Rattle.qx_view.specs.Sound.{Clean, Damaged, Disagree, Foreign, IsDamaged, IsFinding, IsForeign, IsSound, NoVolume, Verdict, last_finding, reason_of, verdict_at, verdict_by, verdict_of, verdict_with}
+use Rattle.qx_view.specs.Walk.{finding_of}
 use Rattle.qx_super.specs.declared.choice.Pick.{Pick}
 use Rattle.qx_super.specs.declared.choice.Pick.TheVariants as picks
 
 -- a clean verdict is with this area and its superblock, and has no finding, no reason and no last finding
-clear_of : (which area : Which) (s u : Superblock) (f : Option Finding) (reason : Option Reason) (last : Option Finding) → verdict_by which s f reason last ≡ Clean area u
+clear_of : (which area : Which) (s u : Superblock) (f : Option Finding) (reason : Option Why) (last : Option Finding) → verdict_by which s f reason last ≡ Clean area u
     → (which ≡ area) × (s ≡ u) × (f ≡ None) × (reason ≡ None) × (last ≡ None)
 clear_of which area s u (Some f) reason last e = absurd (cc)
 clear_of which area s u None (Some reason) last e = absurd (cc)
@@ -26,7 +28,7 @@ clear_of which area s u None None (Some f) e = absurd (cc)
 clear_of which area s u None None None e = (cc, cc, refl, refl, refl)
 
 -- a foreign one has no finding, and this reason
-foreign_of : (which : Which) (s : Superblock) (f : Option Finding) (reason : Option Reason) (last : Option Finding) (why : Reason) → verdict_by which s f reason last ≡ Foreign why → (f ≡ None) × (reason ≡ Some why)
+foreign_of : (which : Which) (s : Superblock) (f : Option Finding) (reason : Option Why) (last : Option Finding) (why : Why) → verdict_by which s f reason last ≡ Foreign why → (f ≡ None) × (reason ≡ Some why)
 foreign_of which s (Some f) reason last why e = absurd (cc)
 foreign_of which s None (Some reason) last why e = (refl, cc)
 foreign_of which s None None (Some f) why e = absurd (cc)
@@ -76,7 +78,7 @@ sound_clean img t area s sound active names =
     ∙ (λ i. verdict_by sound.area u (none i) (sound.no_reason i) (sound.no_last i)) ∙ (λ i. Clean (which i) (same i))
 
 -- a foreign image has a tree and this reason
-pub judged_foreign : (img : List ℕ) (why : Reason) → verdict_of img ≡ Foreign why → IsForeign img why
+pub judged_foreign : (img : List ℕ) (why : Why) → verdict_of img ≡ Foreign why → IsForeign img why
 judged_foreign img why e =
     let j : IsJudged img (Foreign why) = judged_at img (Foreign why) (λ q. cc) (λ q. cc) (active_area img) refl e in
     let m : BlockMap = image_blocks img j.superblock in
@@ -85,7 +87,7 @@ judged_foreign img why e =
     record { area = j.area; superblock = j.superblock; active = j.active; names = j.names; tree = tree_found m r; has = tree_is m r (HasSize-image_blocks img j.superblock j.names) clear.0; reason = clear.1 }
 
 -- and an image with a tree and a reason is foreign
-pub foreign_judged : (img : List ℕ) (why : Reason) → IsForeign img why → verdict_of img ≡ Foreign why
+pub foreign_judged : (img : List ℕ) (why : Why) → IsForeign img why → verdict_of img ≡ Foreign why
 foreign_judged img why f =
     let m : BlockMap = image_blocks img f.superblock in
     let none : finding_of m (main_roots f.superblock) ≡ None = no_test_fails m (main_roots f.superblock) f.tree (HasSize-image_blocks img f.superblock f.names) f.has in
@@ -93,14 +95,14 @@ foreign_judged img why f =
     ∙ (λ i. verdict_by f.area f.superblock (none i) (f.reason i) (last_finding m f.superblock (length img)))
 
 -- the verdict is damaged by what is found, and by nothing else
-damaged_of : (which : Which) (s : Superblock) (walk : Option Finding) (reason : Option Reason) (last : Option Finding) (f : Finding) → verdict_by which s walk reason last ≡ Damaged f → IsFinding walk reason last f
+damaged_of : (which : Which) (s : Superblock) (walk : Option Finding) (reason : Option Why) (last : Option Finding) (f : Finding) → verdict_by which s walk reason last ≡ Damaged f → IsFinding walk reason last f
 damaged_of which s (Some g) reason last f e = inl (cc)
 damaged_of which s None (Some reason) last f e = absurd (cc)
 damaged_of which s None None (Some g) f e = inr (refl, refl, cc)
 damaged_of which s None None None f e = absurd (cc)
 
 -- and what is found is the verdict
-damaged_by : (which : Which) (s : Superblock) (walk : Option Finding) (reason : Option Reason) (last : Option Finding) (f : Finding) → IsFinding walk reason last f → verdict_by which s walk reason last ≡ Damaged f
+damaged_by : (which : Which) (s : Superblock) (walk : Option Finding) (reason : Option Why) (last : Option Finding) (f : Finding) → IsFinding walk reason last f → verdict_by which s walk reason last ≡ Damaged f
 damaged_by which s walk reason last f (inl e) = ap (λ w. verdict_by which s w reason last) e
 damaged_by which s walk reason last f (inr (e, none, l)) = λ i. verdict_by which s (e i) (none i) (l i)
 

@@ -1,15 +1,32 @@
 -- Small volumes on which the definitions are computed.
-use Rattle.std.specs.Prelude.{ℕ, ◌+◌, ◌-◌, ◌*◌, ◌^◌, List, [], ◌∷◌, ◌++◌, flat_map, length, replicate, ◌==◌, ◌||◌, if◌then◌else◌, Some, None}
+use Rattle.std.specs.Prelude.{ℕ, ◌+◌, ◌-◌, ◌*◌, ◌^◌, List, [], ◌∷◌, ◌++◌, flat_map, length, replicate, ◌==◌, ◌||◌, if◌then◌else◌, Option, Some, None}
 use Rattle.std.specs.List.{range_with_len}
 use Rattle.qx_fields.specs.declared.order.Order.{Order}
 use Rattle.qx_fields.specs.declared.order.Order.TheVariants.{Little}
 use Rattle.qx_fields.specs.Number.{digits}
+use Rattle.qx_geom.specs.declared.area.Which.TheVariants.{Second}
 use Rattle.qx_geom.specs.declared.root.Root.{Root}
 use Rattle.qx_geom.specs.Pointer.{absent}
 use Rattle.qx_model.specs.Tree.{Directory, Unused, Row, Tree}
 use Rattle.qx_nodes.specs.BlockMap.{BlockMap}
 use Rattle.qx_super.specs.Superblock.{Superblock}
-use Rattle.qx_view.specs.Images.{Roots}
+use Rattle.qx_view.specs.declared.findings.Code.{Code}
+use Rattle.qx_view.specs.declared.findings.Finding.{Finding}
+use Rattle.qx_view.specs.declared.reasons.Reason.{Reason}
+use Rattle.qx_view.specs.declared.reasons.Foreign.{Foreign as Why}
+use Rattle.qx_view.specs.Images.{Roots, main_roots}
+use Rattle.qx_view.specs.Sound.{last_finding, reason_of}
+use Rattle.qx_view.specs.Walk.{finding_of}
+
+-- ---- what is found
+
+-- this test fails at an inode and a block
+abbrev pub found : Code → ℕ → ℕ → Option Finding
+found code inode block = Some (record { code = code; inode = inode; block = block })
+
+-- an image is foreign for this reason, which applies at some number
+abbrev pub foreign_for : Reason → ℕ → Option Why
+foreign_for reason at = Some (record { reason = reason; at = at })
 
 -- ---- records
 
@@ -156,6 +173,18 @@ empty_tree = record {
   long_names = [];
   long_present = [];
 }
+
+-- the finding of the walk of these blocks, with its superblock
+abbrev pub finding_in : BlockMap → Option Finding
+finding_in m = finding_of m (main_roots made_super)
+
+-- the reason for which these blocks are foreign with this superblock in the second area
+abbrev pub reason_in : BlockMap → Superblock → Option Why
+reason_in m s = reason_of m s Second 65536
+
+-- what is found last in them
+abbrev pub last_in : BlockMap → Superblock → Option Finding
+last_in m s = last_finding m s 65536
 
 -- ---- changes of it
 

@@ -4,6 +4,7 @@ pub use Rattle.qx_super.specs.Active
 pub use Rattle.qx_model.specs.Tree
 pub mod Images
 pub mod Reading
+pub mod Numbers
 pub mod Walk
 pub mod Sound
 pub mod Usage

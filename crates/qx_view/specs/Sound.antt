@@ -23,9 +23,14 @@ use Rattle.qx_super.specs.declared.choice.Pick.TheVariants as picks
 use Rattle.qx_super.specs.Superblock.{Superblock}
 use Rattle.qx_super.specs.Active.{active_area, active_super}
 use Rattle.qx_model.specs.Tree.{Tree}
+use Rattle.qx_view.specs.declared.reasons.Reason.TheVariants as reasons
+use Rattle.qx_view.specs.declared.findings.Code.TheVariants as codes
+use Rattle.qx_view.specs.declared.reasons.Foreign.{Foreign as Why}
+use Rattle.qx_view.specs.declared.reasons.Reason.{Reason}
+use Rattle.qx_view.specs.declared.findings.Finding.{Finding}
 use Rattle.qx_view.specs.Images.{Roots, all_records, main_roots, image_blocks, inode_places, inode_bytes, inode_of, raw_of}
 use Rattle.qx_view.specs.Reading.{IsTreeOf}
-use Rattle.qx_view.specs.Walk.{inode_root, inode_mode, is_directory_inode, walked_inodes, Finding, finding_of}
+use Rattle.qx_view.specs.Walk.{inode_root, inode_mode, is_directory_inode, walked_inodes, finding_of}
 
 -- ---- the nodes in question
 
@@ -182,13 +187,8 @@ bad_long_name m r reached =
 
 -- ---- the first reason
 
--- why an image is foreign: the reason's number, and the least number to which it applies
-pub record Reason : Type 0 where
-  pub reason : ℕ
-  pub at : ℕ
-
 -- a reason that applies at some number
-abbrev pub reason_at : ℕ → Option ℕ → Option Reason
+abbrev pub reason_at : Reason → Option ℕ → Option Why
 reason_at reason None = None
 reason_at reason (Some at) = Some (record { reason = reason; at = at })
 
@@ -199,25 +199,25 @@ first_some (None ∷ os) = first_some os
 first_some (Some x ∷ os) = Some x
 
 -- each of the reasons from 2 on, if it applies; `blocks` are those outside the halves, `reached` the reached inodes
-abbrev pub reasons_in : BlockMap → Superblock → Geometry → Which → Roots → List ℕ → List ℕ → List (Option Reason)
+abbrev pub reasons_in : BlockMap → Superblock → Geometry → Which → Roots → List ℕ → List ℕ → List (Option Why)
 reasons_in m s g which r blocks reached =
-    reason_at 2 (if is_laid_out m s g which && list_all (λ b. nat_le (2 * g.half) b) blocks then None else Some 0)
-    ∷ reason_at 3 (first_below (bit_differs m s.bitmap g blocks) (g.bitmap_leaves * m.size * 8))
-    ∷ reason_at 4 (first_below (fails_nodes m r reached) (inode_places r + 1))
-    ∷ reason_at 5 (first_below (fails_dots m r reached) (inode_places r + 1))
-    ∷ reason_at 6 (first_below (fails_inodes m r reached) (inode_places r + 1))
-    ∷ reason_at 7 (bad_long_name m r reached)
+    reason_at reasons.Halves (if is_laid_out m s g which && list_all (λ b. nat_le (2 * g.half) b) blocks then None else Some 0)
+    ∷ reason_at reasons.Bitmap (first_below (bit_differs m s.bitmap g blocks) (g.bitmap_leaves * m.size * 8))
+    ∷ reason_at reasons.Nodes (first_below (fails_nodes m r reached) (inode_places r + 1))
+    ∷ reason_at reasons.Dots (first_below (fails_dots m r reached) (inode_places r + 1))
+    ∷ reason_at reasons.Inodes (first_below (fails_inodes m r reached) (inode_places r + 1))
+    ∷ reason_at reasons.LongNames (bad_long_name m r reached)
     ∷ []
 
 -- the first reason, of a superblock with this geometry
-abbrev pub reason_with : BlockMap → Superblock → Which → Option Geometry → Option Reason
-reason_with m s which None = reason_at 1 (Some 0)
+abbrev pub reason_with : BlockMap → Superblock → Which → Option Geometry → Option Why
+reason_with m s which None = reason_at reasons.Numbers (Some 0)
 reason_with m s which (Some g) =
     let r = main_roots s in
     first_some (reasons_in m s g which r (outer_blocks m r) (walked_inodes m r))
 
 -- the first reason for which the image of this area's superblock is foreign, on a device of this length
-abbrev pub reason_of : BlockMap → Superblock → Which → ℕ → Option Reason
+abbrev pub reason_of : BlockMap → Superblock → Which → ℕ → Option Why
 reason_of m s which len = reason_with m s which (written_geometry s len)
 
 -- ---- tails and counts
@@ -236,11 +236,11 @@ abbrev pub are_counts_right : BlockMap → Superblock → Geometry → Roots →
 are_counts_right m s g r reached =
     (s.free_blocks + length (outer_blocks m r) == user_blocks g) && (s.free_inodes + length reached == s.num_inodes)
 
--- code 14 at the least inode with a tail, or else code 15 where the counts are wrong
+-- a tail, at the least inode that has one, or else counts that are wrong
 abbrev pub tail_finding : Option ℕ → Bool → Option Finding
-tail_finding (Some n) right = Some (record { code = 14; inode = n; block = absent })
+tail_finding (Some n) right = Some (record { code = codes.Tail; inode = n; block = absent })
 tail_finding None true = None
-tail_finding None false = Some (record { code = 15; inode = 0; block = absent })
+tail_finding None false = Some (record { code = codes.Counts; inode = 0; block = absent })
 
 -- the last finding, of a superblock with this geometry
 abbrev pub last_with : BlockMap → Superblock → Option Geometry → Option Finding
@@ -261,11 +261,11 @@ pub data Verdict : Type 0 where
   NoVolume : Verdict
   Disagree : Verdict
   Damaged : Finding → Verdict
-  Foreign : Reason → Verdict
+  Foreign : Why → Verdict
   Clean : (area : Which) (superblock : Superblock) → Verdict
 
 -- the first of a finding, a reason and a last finding, or else clean with this area and its superblock
-abbrev pub verdict_by : Which → Superblock → Option Finding → Option Reason → Option Finding → Verdict
+abbrev pub verdict_by : Which → Superblock → Option Finding → Option Why → Option Finding → Verdict
 verdict_by which s (Some f) reason last = Damaged f
 verdict_by which s None (Some reason) last = Foreign reason
 verdict_by which s None None (Some f) = Damaged f
@@ -299,7 +299,7 @@ pub record IsSound (img : List ℕ) (t : Tree) : Type 0 where
   pub no_last : last_finding (image_blocks img superblock) superblock (length img) ≡ None
 
 -- an image is foreign: it has a tree, and this is the first reason that applies
-pub record IsForeign (img : List ℕ) (why : Reason) : Type 0 where
+pub record IsForeign (img : List ℕ) (why : Why) : Type 0 where
   pub area : Which
   pub superblock : Superblock
   pub active : active_area img ≡ picks.Active area
@@ -309,7 +309,7 @@ pub record IsForeign (img : List ℕ) (why : Reason) : Type 0 where
   pub reason : reason_of (image_blocks img superblock) superblock area (length img) ≡ Some why
 
 -- this is the first test of the walk that fails; or none does, no reason applies, and the tail or the counts are wrong by it
-abbrev pub IsFinding : Option Finding → Option Reason → Option Finding → Finding → Type 0
+abbrev pub IsFinding : Option Finding → Option Why → Option Finding → Finding → Type 0
 IsFinding walk reason last f = (walk ≡ Some f) ⊎ ((walk ≡ None) × (reason ≡ None) × (last ≡ Some f))
 
 -- an image is damaged by this finding

@@ -14,6 +14,9 @@ use Rattle.qx_records.specs.NameRecord.{RawRecord, Short, Long, Bad}
 use Rattle.qx_records.specs.NameRecord as records
 use Rattle.qx_records.specs.NameSum.{sum_fits}
 use Rattle.qx_model.specs.Tree.{Slot, Unused, Row, is_dots, named_by}
+use Rattle.qx_view.specs.declared.findings.Code.TheVariants as codes
+use Rattle.qx_view.specs.declared.findings.Finding.{Finding}
+use Rattle.qx_view.specs.declared.findings.Code.{Code}
 use Rattle.qx_view.specs.Images.{Roots, all_records, inode_places, inode_of, has_inode, raw_of, record_block, long_name}
 use Rattle.qx_view.specs.Reading.{slot_of, is_plain}
 
@@ -85,18 +88,18 @@ walked_inodes m r = map (λ t. t.inode) (taken_of m r)
 
 -- ---- the tests
 
--- a test with its code, inode and block and whether it passes; or that of code 3 at a pointer, whose block mustn't have been met before
+-- a test with its code, inode and block and whether it passes; or that of a pointer whose block mustn't have been met before
 pub data Test : Type 0 where
-  Tested : (code inode block : ℕ) (passes : Bool) → Test
+  Tested : (code : Code) (inode block : ℕ) (passes : Bool) → Test
   Met : (inode block : ℕ) → Test
 
--- codes 2 and 3 at a pointer that is met
+-- the tests of a pointer that is met: it leads to a block of the volume, which wasn't met before
 abbrev pub visit_tests : BlockMap → ℕ → Visit → List Test
-visit_tests m inode v = Tested 2 inode v.block (nat_lt v.block m.count) ∷ Met inode v.block ∷ []
+visit_tests m inode v = Tested codes.Pointer inode v.block (nat_lt v.block m.count) ∷ Met inode v.block ∷ []
 
 -- those of a node, which is within the bounds or not
 abbrev pub node_tests : BlockMap → ℕ → Root → Bool → List Test
-node_tests m inode node fits = Tested 1 inode absent fits ∷ flat_map (λ v. visit_tests m inode v) (visits_of m node)
+node_tests m inode node fits = Tested codes.Levels inode absent fits ∷ flat_map (λ v. visit_tests m inode v) (visits_of m node)
 
 -- a directory, its parent, and the block that holds the record in question
 pub record Place : Type 0 where
@@ -107,24 +110,24 @@ pub record Place : Type 0 where
 -- the tests of a row with a name; `names` are those of earlier rows, `listed` the inodes that were listed before
 abbrev pub row_tests : BlockMap → Roots → Place → List (List ℕ) → List ℕ → ℕ → List ℕ → List Test
 row_tests m r at names listed n name =
-    Tested 11 at.inode at.block (is_plain name)
-    ∷ Tested 10 at.inode at.block (not (list_any (λ other. bytes_eq other name) names))
+    Tested codes.NameByte at.inode at.block (is_plain name)
+    ∷ Tested codes.SameName at.inode at.block (not (list_any (λ other. bytes_eq other name) names))
     ∷ (if is_dots name
-    then Tested 12 at.inode at.block (n == (if length name == 1 then at.inode else at.parent)) ∷ []
-    else Tested 4 at.inode at.block (has_inode r.inodes n)
-    ∷ Tested 5 at.inode at.block (is_some (kind_of (inode_mode m r n)))
-    ∷ Tested 13 at.inode at.block (not (is_directory_inode m r n && is_in listed n)) ∷ [])
+    then Tested codes.Dots at.inode at.block (n == (if length name == 1 then at.inode else at.parent)) ∷ []
+    else Tested codes.NoInode at.inode at.block (has_inode r.inodes n)
+    ∷ Tested codes.Kind at.inode at.block (is_some (kind_of (inode_mode m r n)))
+    ∷ Tested codes.DirTwice at.inode at.block (not (is_directory_inode m r n && is_in listed n)) ∷ [])
 
 -- the tests of a record
 abbrev pub record_tests : BlockMap → Roots → Place → List (List ℕ) → List ℕ → RawRecord → List Test
 record_tests m r at names listed records.Unused = []
-record_tests m r at names listed (Bad count) = Tested 7 at.inode at.block false ∷ []
-record_tests m r at names listed (Short n name) = Tested 7 at.inode at.block true ∷ row_tests m r at names listed n name
+record_tests m r at names listed (Bad count) = Tested codes.Record at.inode at.block false ∷ []
+record_tests m r at names listed (Short n name) = Tested codes.Record at.inode at.block true ∷ row_tests m r at names listed n name
 record_tests m r at names listed (Long n number sum) =
     let name = long_name m r.longfile number in
-    Tested 7 at.inode at.block true
-    ∷ Tested 8 at.inode at.block (is_some name)
-    ∷ Tested 9 at.inode at.block (sum_fits sum (unwrap_or name []))
+    Tested codes.Record at.inode at.block true
+    ∷ Tested codes.LongName at.inode at.block (is_some name)
+    ∷ Tested codes.LongSum at.inode at.block (sum_fits sum (unwrap_or name []))
     ∷ row_tests m r at names listed n (unwrap_or name [])
 
 -- the name of a row
@@ -147,7 +150,7 @@ kind_tests m r t node None = []
 kind_tests m r t node (Some kinds.Special) = []
 kind_tests m r t node (Some kinds.File) = node_tests m t.inode node (levels_fit m node)
 kind_tests m r t node (Some kinds.Link) =
-    node_tests m t.inode node (levels_fit m node) ++ Tested 6 t.inode absent (not (node.size == 0) && nat_lt node.size 1024) ∷ []
+    node_tests m t.inode node (levels_fit m node) ++ Tested codes.LinkSize t.inode absent (not (node.size == 0) && nat_lt node.size 1024) ∷ []
 kind_tests m r t node (Some kinds.Directory) =
     node_tests m t.inode node (levels_fit m node) ++ records_tests m r t.inode t.parent node [] t.listed (all_records node)
 
@@ -159,9 +162,9 @@ inode_tests m r t = kind_tests m r t (inode_root m r t.inode) (kind_of (inode_mo
 abbrev pub root_tests : BlockMap → Root → List Test
 root_tests m node = node_tests m 0 node (root_fits m node)
 
--- codes 4 and 5 at inode 1
+-- the tests of inode 1
 abbrev pub top_tests : BlockMap → Roots → List Test
-top_tests m r = Tested 4 1 absent (has_inode r.inodes 1) ∷ Tested 5 1 absent (is_directory_inode m r 1) ∷ []
+top_tests m r = Tested codes.NoInode 1 absent (has_inode r.inodes 1) ∷ Tested codes.Kind 1 absent (is_directory_inode m r 1) ∷ []
 
 -- all the tests of the tree that begins at these roots, in the order of the walk
 abbrev pub tests_of : BlockMap → Roots → List Test
@@ -192,16 +195,10 @@ abbrev pub gone_through : List ℕ → List Test → List ℕ
 gone_through met [] = met
 gone_through met (e ∷ es) = gone_through (met_after met e) es
 
--- a test that failed, by its code, its inode and the block or the absent pointer
-pub record Finding : Type 0 where
-  pub code : ℕ
-  pub inode : ℕ
-  pub block : ℕ
-
--- the finding of a test
+-- the finding of a test that fails
 abbrev pub finding_at : Test → Finding
 finding_at (Tested code inode block b) = record { code = code; inode = inode; block = block }
-finding_at (Met inode block) = record { code = 3; inode = inode; block = block }
+finding_at (Met inode block) = record { code = codes.Twice; inode = inode; block = block }
 
 -- the first test that fails where these blocks were met before
 abbrev pub first_failing : List ℕ → List Test → Option Finding

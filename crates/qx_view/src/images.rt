@@ -18,9 +18,11 @@ pub fn the_small_image_is_clean()
 
 /// With a byte of one superblock changed the other area is active, and the same tree is there; with both changed there is no volume.
 pub fn the_small_image_with_changed_superblocks()
-    ensures first { verdict_of (image_with (changed first_bytes) second_bytes) ≡ Clean areas.Second made_super }
+    ensures first { verdict_of (image_with (changed first_bytes) second_bytes)
+        ≡ Clean areas.Second made_super }
     ensures first_tree { IsSound (image_with (changed first_bytes) second_bytes) empty_tree }
-    ensures second { verdict_of (image_with first_bytes (changed second_bytes)) ≡ Clean areas.First made_first }
+    ensures second { verdict_of (image_with first_bytes (changed second_bytes))
+        ≡ Clean areas.First made_first }
     ensures second_tree { IsSound (image_with first_bytes (changed second_bytes)) empty_tree }
     ensures both { verdict_of (image_with (changed first_bytes) (changed second_bytes)) ≡ NoVolume }
 {}

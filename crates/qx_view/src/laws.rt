@@ -12,11 +12,13 @@ ghost use Rattle.qx_model.specs.Tree.{Tree, links_of};
 ghost use Rattle.qx_super.specs.declared.choice.Pick.TheVariants as picks;
 ghost use Rattle.qx_super.specs.Active.{active_area, active_super};
 ghost use Rattle.qx_super.specs.Superblock.{Superblock};
+ghost use Rattle.qx_view.specs.declared.findings.Finding.{Finding};
+ghost use Rattle.qx_view.specs.declared.reasons.Foreign.{Foreign as Why};
 ghost use Rattle.qx_view.specs.Images.{IsInHole, Roots, all_records, block_bytes, image_blocks, main_roots, present_records, raw_of};
 ghost use Rattle.qx_view.specs.Reading.{IsHeld, IsTree, IsTreeOf};
 ghost use Rattle.qx_view.specs.Usage.{met_blocks};
-ghost use Rattle.qx_view.specs.Walk.{Finding, Place, finding_of, inodes_named_in, named_inode, named_inodes, record_tests, records_tests, walked_inodes};
-ghost use Rattle.qx_view.specs.Sound.{Clean, Damaged, Foreign, IsDamaged, IsForeign, IsSound, Reason, long_number, numbers_named_in, verdict_of, written_geometry};
+ghost use Rattle.qx_view.specs.Walk.{Place, finding_of, inodes_named_in, named_inode, named_inodes, record_tests, records_tests, walked_inodes};
+ghost use Rattle.qx_view.specs.Sound.{Clean, Damaged, Foreign, IsDamaged, IsForeign, IsSound, long_number, numbers_named_in, verdict_of, written_geometry};
 
 /// An image has one tree at most.
 pub fn an_image_has_one_tree()
@@ -90,8 +92,8 @@ pub fn clean_images_are_the_sound_ones()
 
 /// An image is foreign for a reason exactly where it has a tree and the reason is the first that applies.
 pub fn foreign_images_have_a_tree()
-    ensures foreign { (img : List ℕ) (why : Reason) → verdict_of img ≡ Foreign why → IsForeign img why }
-    ensures reason { (img : List ℕ) (why : Reason) → IsForeign img why → verdict_of img ≡ Foreign why }
+    ensures foreign { (img : List ℕ) (why : Why) → verdict_of img ≡ Foreign why → IsForeign img why }
+    ensures reason { (img : List ℕ) (why : Why) → IsForeign img why → verdict_of img ≡ Foreign why }
 {}
 
 /// An image is damaged by a finding exactly where the walk finds it, or else the tail or the counts do and no reason applies.

@@ -2,19 +2,23 @@
 //!
 //! Stands on `qx_nodes`, `qx_records` and `qx_super` for what bytes say, and on `qx_model` for the tree; the walk, the mount and the snapshots stand on it.
 //! Its contract: the definitions of `specs/Reading.antt`, `Walk.antt` and `Sound.antt`, and the laws below about them.
-//! It keeps no state, takes no memory and has no code that runs.
+//! It keeps no state and takes no memory; of its code only the numbers of codes and reasons run.
 #![tactic(auto)]
 
 mod examples;
+mod findings;
 mod images;
 mod laws;
+mod reasons;
 mod volumes;
 
 pub use examples::{
     a_new_volume_is_clean, the_findings_of_changed_volumes, the_last_findings_of_changed_volumes,
-    the_leaves_under_levels, the_reasons_of_changed_volumes, the_usage_of_a_new_volume,
-    the_walk_in_both_orders, the_walk_of_a_vast_directory, the_walk_of_two_directories,
+    the_leaves_under_levels, the_numbers_of_codes, the_numbers_of_reasons,
+    the_reasons_of_changed_volumes, the_usage_of_a_new_volume, the_walk_in_both_orders,
+    the_walk_of_a_vast_directory, the_walk_of_two_directories,
 };
+pub use findings::{Code, Finding};
 pub use images::{
     the_small_image_cut_short, the_small_image_is_clean, the_small_image_with_changed_superblocks,
 };
@@ -25,6 +29,7 @@ pub use laws::{
     the_active_half_is_held, the_records_of_present_leaves_say_all, the_walk_counts_the_links,
     the_walk_meets_the_held_blocks, what_soundness_depends_on,
 };
+pub use reasons::{Foreign, Reason};
 pub use volumes::{
     a_long_name_has_one_row, a_volume_of_eighteen_inodes, a_volume_with_pointer_blocks,
     the_dots_of_long_records, the_sums_of_a_byte_above_127, the_walk_of_the_root_nodes,

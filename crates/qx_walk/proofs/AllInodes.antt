@@ -111,7 +111,7 @@ module _ (m : BlockMap) (r : Roots) (way : Way) (seen mid : Seen) (q : Queued) (
   halts_there halt new after walked = go halt walked.answer
     where
       go : (halt : Halt) → HaltsAt (first_failing w.done.met (inode_tests m r (taken_with q.inode q.parent w.done))) halt → HaltsAt (finding_of m r) halt
-      go (halts.Finding code inode block) h = fails_there m r w.before (pair_of q) rest w.done.listed w.done.met here (record { code = code; inode = inode; block = block }) h
+      go (halts.Finding found) h = fails_there m r w.before (pair_of q) rest w.done.listed w.done.met here found h
       go halts.Device h = tt
       go halts.NoMemory h = tt
 

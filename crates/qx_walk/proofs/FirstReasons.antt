@@ -10,9 +10,11 @@ use Rattle.qx_geom.specs.declared.area.Which.{Which}
 use Rattle.qx_geom.specs.declared.geometry.Geometry.{Geometry}
 use Rattle.qx_nodes.specs.BlockMap.{BlockMap}
 use Rattle.qx_super.specs.Superblock.{Superblock}
+use Rattle.qx_view.specs.declared.reasons.Reason.TheVariants as reasons
+use Rattle.qx_view.specs.declared.reasons.Foreign.{Foreign as Why}
 use Rattle.qx_view.proofs.ActiveHalf.{IsGeometryOf, written_is}
 use Rattle.qx_view.specs.Images.{inode_places, main_roots}
-use Rattle.qx_view.specs.Sound.{Reason, bad_long_name, bit_differs, fails_dots, fails_inodes, fails_nodes, first_some, is_laid_out, outer_blocks, reason_at, reason_with, written_geometry}
+use Rattle.qx_view.specs.Sound.{bad_long_name, bit_differs, fails_dots, fails_inodes, fails_nodes, first_some, is_laid_out, outer_blocks, reason_at, reason_with, written_geometry}
 use Rattle.qx_view.specs.Walk.{walked_inodes}
 use Rattle.qx_walk.specs.declared.walked.Walked.{Walked}
 use Rattle.qx_walk.specs.Bitmaps.{is_wrong_bit}
@@ -43,34 +45,34 @@ module _ (m : BlockMap) (s : Superblock) (len : ℕ) (g : Geometry) (which : Whi
   differing = first_below (bit_differs m s.bitmap g (outer_blocks m (main_roots s))) (g.bitmap_leaves * m.size * 8)
 
   -- the reasons behind the third
-  abbrev behind : List (Option Reason)
+  abbrev behind : List (Option Why)
   behind =
-      reason_at 4 (first_below (fails_nodes m (main_roots s) (walked_inodes m (main_roots s))) (inode_places (main_roots s) + 1))
-      ∷ reason_at 5 (first_below (fails_dots m (main_roots s) (walked_inodes m (main_roots s))) (inode_places (main_roots s) + 1))
-      ∷ reason_at 6 (first_below (fails_inodes m (main_roots s) (walked_inodes m (main_roots s))) (inode_places (main_roots s) + 1))
-      ∷ reason_at 7 (bad_long_name m (main_roots s) (walked_inodes m (main_roots s)))
+      reason_at reasons.Nodes (first_below (fails_nodes m (main_roots s) (walked_inodes m (main_roots s))) (inode_places (main_roots s) + 1))
+      ∷ reason_at reasons.Dots (first_below (fails_dots m (main_roots s) (walked_inodes m (main_roots s))) (inode_places (main_roots s) + 1))
+      ∷ reason_at reasons.Inodes (first_below (fails_inodes m (main_roots s) (walked_inodes m (main_roots s))) (inode_places (main_roots s) + 1))
+      ∷ reason_at reasons.LongNames (bad_long_name m (main_roots s) (walked_inodes m (main_roots s)))
       ∷ []
 
   -- the second reason, or one behind it
-  second : (right : Bool) → is_right ≡ right → reason_with m s which (Some g) ≡ (if right then first_some (reason_at 3 differing ∷ behind) else Some (record { reason = 2; at = 0 }))
-  second right e = ap (λ b. first_some (reason_at 2 (if b then None else Some 0) ∷ reason_at 3 differing ∷ behind)) e ∙ go right
+  second : (right : Bool) → is_right ≡ right → reason_with m s which (Some g) ≡ (if right then first_some (reason_at reasons.Bitmap differing ∷ behind) else Some (record { reason = reasons.Halves; at = 0 }))
+  second right e = ap (λ b. first_some (reason_at reasons.Halves (if b then None else Some 0) ∷ reason_at reasons.Bitmap differing ∷ behind)) e ∙ go right
     where
-      go : (b : Bool) → first_some (reason_at 2 (if b then None else Some 0) ∷ reason_at 3 differing ∷ behind) ≡ (if b then first_some (reason_at 3 differing ∷ behind) else Some (record { reason = 2; at = 0 }))
+      go : (b : Bool) → first_some (reason_at reasons.Halves (if b then None else Some 0) ∷ reason_at reasons.Bitmap differing ∷ behind) ≡ (if b then first_some (reason_at reasons.Bitmap differing ∷ behind) else Some (record { reason = reasons.Halves; at = 0 }))
       go true = refl
       go false = refl
 
   -- the halves aren't as they must be
-  pub not_laid_out : is_laid_out_by m s g which w.met ≡ false → Some (record { reason = 2; at = 0 }) ≡ reason_with m s which (Some g)
+  pub not_laid_out : is_laid_out_by m s g which w.met ≡ false → Some (record { reason = reasons.Halves; at = 0 }) ≡ reason_with m s which (Some g)
   not_laid_out wrong = sym (second false (sym laid_same ∙ wrong))
 
   -- where they are, the bitmap comes next
-  third : is_laid_out_by m s g which w.met ≡ true → (o : Option ℕ) → o ≡ first_below (is_wrong_bit m g which w.met) (g.bitmap_leaves * m.size * 8) → reason_with m s which (Some g) ≡ first_some (reason_at 3 o ∷ behind)
+  third : is_laid_out_by m s g which w.met ≡ true → (o : Option ℕ) → o ≡ first_below (is_wrong_bit m g which w.met) (g.bitmap_leaves * m.size * 8) → reason_with m s which (Some g) ≡ first_some (reason_at reasons.Bitmap o ∷ behind)
   third right o found =
       let same : differing ≡ o = first_wrong m s (has_size m s g of (size ∙ of.size)) is.none g which of size count (and_left (is_laid_out m s g which) _ right) w.met is.met limit ∙ sym found in
-      second true (sym laid_same ∙ right) ∙ ap (λ x. first_some (reason_at 3 x ∷ behind)) same
+      second true (sym laid_same ∙ right) ∙ ap (λ x. first_some (reason_at reasons.Bitmap x ∷ behind)) same
 
   -- a bit that is wrong
-  pub wrong_bitmap : (at : ℕ) → is_laid_out_by m s g which w.met ≡ true → Some at ≡ first_below (is_wrong_bit m g which w.met) (g.bitmap_leaves * m.size * 8) → Some (record { reason = 3; at = at }) ≡ reason_with m s which (Some g)
+  pub wrong_bitmap : (at : ℕ) → is_laid_out_by m s g which w.met ≡ true → Some at ≡ first_below (is_wrong_bit m g which w.met) (g.bitmap_leaves * m.size * 8) → Some (record { reason = reasons.Bitmap; at = at }) ≡ reason_with m s which (Some g)
   wrong_bitmap at right found = sym (third right (Some at) found)
 
   -- none: the later reasons

@@ -8,6 +8,7 @@ use Rattle.qx_nodes.specs.BlockMap.{BlockMap}
 use Rattle.qx_records.specs.InodeRecord.{kind_of}
 use Rattle.qx_records.specs.NameRecord.{Long, RawRecord, Short}
 use Rattle.qx_records.specs.NameSum.{sum_fits}
+use Rattle.qx_view.specs.declared.findings.Code.TheVariants as codes
 use Rattle.qx_view.specs.Images.{Roots, has_inode, long_name}
 use Rattle.qx_view.specs.Reading.{is_plain, long_slot, slot_of}
 use Rattle.qx_view.specs.Walk.{Place, Test, Tested, first_failing, inode_mode, is_directory_inode, listed_after, new_ones, record_tests, row_tests, slot_name}
@@ -24,13 +25,13 @@ use Rattle.qx_tables.specs.Tables.{HasListed, HasNames, HoldsNames}
 -- the tests of a row, by what they say
 abbrev tests_by : Place → Bool → Bool → Bool → Bool → Bool → Bool → Bool → List Test
 tests_by at plain new dots wanted there kind once =
-    Tested 11 at.inode at.block plain
-    ∷ Tested 10 at.inode at.block new
+    Tested codes.NameByte at.inode at.block plain
+    ∷ Tested codes.SameName at.inode at.block new
     ∷ (if dots
-    then Tested 12 at.inode at.block wanted ∷ []
-    else Tested 4 at.inode at.block there
-    ∷ Tested 5 at.inode at.block kind
-    ∷ Tested 13 at.inode at.block once ∷ [])
+    then Tested codes.Dots at.inode at.block wanted ∷ []
+    else Tested codes.NoInode at.inode at.block there
+    ∷ Tested codes.Kind at.inode at.block kind
+    ∷ Tested codes.DirTwice at.inode at.block once ∷ [])
 
 -- none fails of a row that lists its inode
 none_row : (met : List ℕ) (at : Place) (p q d w a k o : Bool) → p ≡ true → q ≡ true → d ≡ false → a ≡ true → k ≡ true → o ≡ true → first_failing met (tests_by at p q d w a k o) ≡ None
@@ -38,7 +39,7 @@ none_row met at p q d w a k o e f g h i j = rw (e, f, g, h, i, j)
 
 -- the last fails of a directory that was listed
 first_again : (met : List ℕ) (at : Place) (p q d w a k o : Bool) → p ≡ true → q ≡ true → d ≡ false → a ≡ true → k ≡ true → o ≡ false
-    → first_failing met (tests_by at p q d w a k o) ≡ Some (record { code = 13; inode = at.inode; block = at.block })
+    → first_failing met (tests_by at p q d w a k o) ≡ Some (record { code = codes.DirTwice; inode = at.inode; block = at.block })
 first_again met at p q d w a k o e f g h i j = rw (e, f, g, h, i, j)
 
 -- ---- a row with a name
@@ -73,7 +74,7 @@ walks_row m r at n name kept seen (Ok x) plain new d a k once fault names listin
 walks_row m r at n name kept seen (Err halt) plain new d a k once fault names listing longs = row_unsaid m r at n name kept seen (Err halt) fault
 
 -- a directory that was listed ends the walk
-pub walks_again : {T : Type 0} (m : BlockMap) (r : Roots) (at : Place) (n : ℕ) (name : List ℕ) (kept : Kept) (seen : Seen) (halt : Halt) → halt ≡ halts.Finding 13 at.inode at.block
+pub walks_again : {T : Type 0} (m : BlockMap) (r : Roots) (at : Place) (n : ℕ) (name : List ℕ) (kept : Kept) (seen : Seen) (halt : Halt) → halt ≡ halts.Finding (record { code = codes.DirTwice; inode = at.inode; block = at.block })
     → is_plain name ≡ true → is_new name kept ≡ true → is_dots name ≡ false → has_inode r.inodes n ≡ true → is_some (kind_of (inode_mode m r n)) ≡ true → is_once m r n kept ≡ false
     → WalksRow {T = T} m r at n name kept (Err halt) seen
 walks_again m r at n name kept seen halt h plain new d a k once = record {
@@ -92,17 +93,17 @@ short_walks {T = T} m r at n name raw kept result seen e w = subst (λ z. WalksR
 -- its tests, by what the leaf says
 abbrev tests_with : BlockMap → Roots → Place → ℕ → ℕ → Kept → Option (List ℕ) → List Test
 tests_with m r at n sum kept name =
-    Tested 7 at.inode at.block true
-    ∷ Tested 8 at.inode at.block (is_some name)
-    ∷ Tested 9 at.inode at.block (sum_fits sum (unwrap_or name []))
+    Tested codes.Record at.inode at.block true
+    ∷ Tested codes.LongName at.inode at.block (is_some name)
+    ∷ Tested codes.LongSum at.inode at.block (sum_fits sum (unwrap_or name []))
     ∷ row_tests m r at kept.names kept.listed n (unwrap_or name [])
 
 -- and by whether the checksum is the name's
 abbrev tests_summed : BlockMap → Roots → Place → ℕ → Kept → List ℕ → Bool → List Test
-tests_summed m r at n kept name fits = Tested 7 at.inode at.block true ∷ Tested 8 at.inode at.block true ∷ Tested 9 at.inode at.block fits ∷ row_tests m r at kept.names kept.listed n name
+tests_summed m r at n kept name fits = Tested codes.Record at.inode at.block true ∷ Tested codes.LongName at.inode at.block true ∷ Tested codes.LongSum at.inode at.block fits ∷ row_tests m r at kept.names kept.listed n name
 
 -- no name
-pub long_nameless : {T : Type 0} (m : BlockMap) (r : Roots) (at : Place) (n number sum : ℕ) (kept : Kept) (seen : Seen) (halt : Halt) → halt ≡ halts.Finding 8 at.inode at.block
+pub long_nameless : {T : Type 0} (m : BlockMap) (r : Roots) (at : Place) (n number sum : ℕ) (kept : Kept) (seen : Seen) (halt : Halt) → halt ≡ halts.Finding (record { code = codes.LongName; inode = at.inode; block = at.block })
     → long_name m r.longfile number ≡ None → WalksRecord {T = T} m r at (Long n number sum) kept (Err halt) seen
 long_nameless m r at n number sum kept seen halt h e = record {
   answer = λ met. subst (λ z. HaltsAt (first_failing met (record_tests m r at kept.names kept.listed (Long n number sum))) z) (sym h) (ap (λ o. first_failing met (tests_with m r at n sum kept o)) e);
@@ -110,7 +111,7 @@ long_nameless m r at n number sum kept seen halt h e = record {
 }
 
 -- another checksum
-pub long_other : {T : Type 0} (m : BlockMap) (r : Roots) (at : Place) (n number sum : ℕ) (name : List ℕ) (kept : Kept) (seen : Seen) (halt : Halt) → halt ≡ halts.Finding 9 at.inode at.block
+pub long_other : {T : Type 0} (m : BlockMap) (r : Roots) (at : Place) (n number sum : ℕ) (name : List ℕ) (kept : Kept) (seen : Seen) (halt : Halt) → halt ≡ halts.Finding (record { code = codes.LongSum; inode = at.inode; block = at.block })
     → long_name m r.longfile number ≡ Some name → sum_fits sum name ≡ false → WalksRecord {T = T} m r at (Long n number sum) kept (Err halt) seen
 long_other m r at n number sum name kept seen halt h is e = record {
   answer = λ met. subst (λ z. HaltsAt (first_failing met (record_tests m r at kept.names kept.listed (Long n number sum))) z) (sym h)

@@ -6,11 +6,12 @@ use Rattle.std.proofs.lemmas.Result.{on_ok_weaker}
 use Rattle.qx_geom.specs.declared.root.Root.{Root}
 use Rattle.qx_nodes.specs.BlockMap.{BlockMap}
 use Rattle.qx_nodes.specs.Content.{HasSize, levels_fit}
+use Rattle.qx_view.specs.declared.findings.Finding.{Finding}
 use Rattle.qx_view.proofs.HoleRecords.{given_by_present, tests_by_present}
 use Rattle.qx_view.proofs.TestOrder.{first_failing-append, or_else}
 use Rattle.qx_view.specs.Images.{Roots, all_records, present_records, raw_of, record_block}
 use Rattle.qx_view.specs.Sound.{is_foreign_directory, long_number, numbers_named_in}
-use Rattle.qx_view.specs.Walk.{Finding, first_failing, gone_through, inodes_named_in, listed_after, named_inode, new_ones, record_tests, records_tests}
+use Rattle.qx_view.specs.Walk.{first_failing, gone_through, inodes_named_in, listed_after, named_inode, new_ones, record_tests, records_tests}
 use Rattle.qx_pointers.proofs.PassedTests.{halts_more}
 use Rattle.qx_walk.proofs.KeptLists.{HaveSame, all_counted, all_listed, all_queued, tests_append, with_append}
 use Rattle.qx_outside.specs.Causes.{Rose}

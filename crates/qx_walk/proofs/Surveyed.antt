@@ -1,7 +1,6 @@
 -- What is said of an image by the parts of a walk over a device that shows it.
 use Rattle.std.proofs.Common.{◌≡◌, ℕ, List, length, refl, sym, ◌∙◌, ap, arith}
 use Rattle.std.specs.Prelude.{IfSome, IsTrue, Option, Some, None, ◌-◌}
-use Rattle.std.specs.Option.{option_map}
 use Rattle.qx_blockset.specs.Members.{count_of, limit_of}
 use Rattle.qx_geom.specs.declared.area.Which.{Which}
 use Rattle.qx_geom.specs.declared.geometry.Geometry.{Geometry}
@@ -16,16 +15,17 @@ use Rattle.qx_pointers.specs.Shown.{JustReads, Shows}
 use Rattle.qx_super.specs.Active.{active_area, active_super}
 use Rattle.qx_super.specs.Superblock.{Superblock}
 use Rattle.qx_super.specs.declared.choice.Pick.TheVariants as picks
+use Rattle.qx_view.specs.declared.findings.Finding.{Finding}
+use Rattle.qx_view.specs.declared.reasons.Foreign.{Foreign as Why}
 use Rattle.qx_view.proofs.ImageTrees.{HasSize-image_blocks}
 use Rattle.qx_view.specs.Images.{block_bytes, image_blocks, main_roots}
-use Rattle.qx_view.specs.Sound.{last_with, reason_with, verdict_of, written_geometry}
+use Rattle.qx_view.specs.Sound.{Damaged, last_with, reason_with, verdict_of, written_geometry}
 use Rattle.qx_view.specs.Usage.{met_blocks}
 use Rattle.qx_view.specs.Walk.{finding_of}
 use Rattle.qx_walk.proofs.OuterBlocks.{count_marked, met_counted, met_differ}
 use Rattle.qx_walk.proofs.Verdicts.{clean, foreign, found, found_last}
-use Rattle.qx_walk.specs.declared.survey.Foreign.{Foreign}
 use Rattle.qx_walk.specs.declared.walked.Walked.{Walked}
-use Rattle.qx_walk.specs.Layouts.{IsLast, IsNamed, IsShapeOf, reason_in}
+use Rattle.qx_walk.specs.Layouts.{IsShapeOf}
 use Rattle.qx_walk.specs.Surveys.{IsFault, IsSurvey, fault_of, free_by, free_if, survey_by, verdict_if}
 use Rattle.qx_walk.specs.Trees.{IsWalked}
 
@@ -42,17 +42,15 @@ shown_blocks shape s img old new is reads told bytes =
 module _ (img : List ℕ) (which : Which) (s : Superblock) (active : active_area img ≡ picks.Active which) (names : active_super img ≡ Some s) where
   -- a halt at the first finding says that the image is damaged by it
   pub halted : (halt : Halt) → HaltsAt (finding_of (image_blocks img s) (main_roots s)) halt → IsFault img (fault_of halt)
-  halted (halts.Finding code inode block) e = found img which s active names (record { code = code; inode = inode; block = block }) e
+  halted (halts.Finding f) e = found img which s active names f e
   halted halts.Device e = tt
   halted halts.NoMemory e = tt
 
   module _ (w : Walked) (is : IsWalked (image_blocks img s) (main_roots s) w) (geometry : Option Geometry) (written : written_geometry s (length img) ≡ geometry) where
     -- so does a last finding, where no reason applies
-    pub halted_last : (halt : Halt) → reason_with (image_blocks img s) s which geometry ≡ None → IsNamed halt → IsLast (last_with (image_blocks img s) s geometry) (Some halt) → IsFault img (fault_of halt)
-    halted_last (halts.Finding code inode block) none named e =
-        found_last img which s active names is.none (ap (reason_with (image_blocks img s) s which) written ∙ none) (record { code = code; inode = inode; block = block }) (ap (last_with (image_blocks img s) s) written ∙ e)
-    halted_last halts.Device none named e = tt
-    halted_last halts.NoMemory none named e = tt
+    pub halted_last : (f : Finding) → reason_with (image_blocks img s) s which geometry ≡ None → last_with (image_blocks img s) s geometry ≡ Some f → verdict_of img ≡ Damaged f
+    halted_last f none e =
+        found_last img which s active names is.none (ap (reason_with (image_blocks img s) s which) written ∙ none) f (ap (last_with (image_blocks img s) s) written ∙ e)
 
     -- how many blocks were met
     met_length : limit_of w.met ≡ s.num_blocks → count_of w.met ≡ length (met_blocks (image_blocks img s) (main_roots s))
@@ -61,18 +59,18 @@ module _ (img : List ℕ) (which : Which) (s : Superblock) (active : active_area
         count_marked w.met (met_blocks m (main_roots s)) is.met (met_differ m s (HasSize-image_blocks img s names) is.none) (λ b h. omega (arith, limit, met_counted m s (HasSize-image_blocks img s names) is.none b h))
 
     -- the verdict, by the first reason that applies
-    verdict_is : (why : Option Foreign) → option_map reason_in why ≡ reason_with (image_blocks img s) s which geometry → (why ≡ None → last_with (image_blocks img s) s geometry ≡ None)
+    verdict_is : (why : Option Why) → why ≡ reason_with (image_blocks img s) s which geometry → (why ≡ None → last_with (image_blocks img s) s geometry ≡ None)
         → verdict_of img ≡ verdict_if which s why
     verdict_is None reason last =
         clean img which s active names is.none (ap (reason_with (image_blocks img s) s which) written ∙ sym reason) (ap (last_with (image_blocks img s) s) written ∙ last refl)
-    verdict_is (Some f) reason last = foreign img which s active names is.none (reason_in f) (ap (reason_with (image_blocks img s) s which) written ∙ sym reason)
+    verdict_is (Some f) reason last = foreign img which s active names is.none f (ap (reason_with (image_blocks img s) s which) written ∙ sym reason)
 
-    free_is : (why : Option Foreign) → limit_of w.met ≡ s.num_blocks → free_by s w why ≡ free_if img s why
+    free_is : (why : Option Why) → limit_of w.met ≡ s.num_blocks → free_by s w why ≡ free_if img s why
     free_is None limit = refl
     free_is (Some f) limit = ap (λ n. s.num_blocks - n) (met_length limit)
 
     -- the survey of the walked tree says what the image is
-    pub surveyed : (why : Option Foreign) → limit_of w.met ≡ s.num_blocks → option_map reason_in why ≡ reason_with (image_blocks img s) s which geometry → (why ≡ None → last_with (image_blocks img s) s geometry ≡ None)
+    pub surveyed : (why : Option Why) → limit_of w.met ≡ s.num_blocks → why ≡ reason_with (image_blocks img s) s which geometry → (why ≡ None → last_with (image_blocks img s) s geometry ≡ None)
         → IsSurvey img (survey_by which s w why)
     surveyed why limit reason last = record {
       superblock = s;
@@ -91,6 +89,6 @@ module _ (img : List ℕ) (which : Which) (s : Superblock) (active : active_area
     }
 
 -- where there is a last finding, no reason applied
-pub no_reason : (why : Option Foreign) (last : Option Halt) (halt : Halt) → IfSome why (λ f. last ≡ None) → last ≡ Some halt → why ≡ None
-no_reason None last halt h e = refl
-no_reason (Some f) last halt h e = absurd (cc)
+pub no_reason : (why : Option Why) (last : Option Finding) (f : Finding) → IfSome why (λ w. last ≡ None) → last ≡ Some f → why ≡ None
+no_reason None last f h e = refl
+no_reason (Some w) last f h e = absurd (cc)

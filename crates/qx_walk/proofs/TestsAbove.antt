@@ -11,6 +11,7 @@ use Rattle.qx_nodes.specs.BlockMap.{BlockMap}
 use Rattle.qx_nodes.specs.Content.{levels_fit, root_fits}
 use Rattle.qx_nodes.specs.Visits.{visits_of}
 use Rattle.qx_geom.proofs.Truths.{and_left}
+use Rattle.qx_view.specs.declared.findings.Code.TheVariants as codes
 use Rattle.qx_view.proofs.PassingTests.{NodePasses, Passing, node_passes, passing_parts, passing_tested}
 use Rattle.qx_view.specs.Images.{Roots, has_inode, inode_places}
 use Rattle.qx_nodes.specs.ForeignNodes.{is_foreign_node}
@@ -50,7 +51,7 @@ root_leaves m node x a b met leaves marks tests is =
 -- an Err says one halt
 one_halt : {T : Type 0} (halt : Halt) (r : Result T Halt) → r ≡ Err halt → r ≡ Err halts.Device → halt ≡ halts.Device
 one_halt halts.Device r a b = refl
-one_halt (halts.Finding code inode block) r a b = absurd (cc (a, b))
+one_halt (halts.Finding found) r a b = absurd (cc (a, b))
 one_halt halts.NoMemory r a b = absurd (cc (a, b))
 
 -- a test that fails is no fault, whatever came before
@@ -105,7 +106,7 @@ module _ (m : BlockMap) (r : Roots) where
   pub top_there : first_failing [] (tests_above m r) ≡ None → is_directory_inode m r 1 ≡ true
   top_there none =
       let top : Passing (top_tests m r) = (passing_parts (inodes_first ++ longfile_next ++ further_next) (top_tests m r) (record { met = []; none = none })).1 in
-      (passing_tested 5 1 absent (is_directory_inode m r 1) [] (passing_tested 4 1 absent (has_inode r.inodes 1) (Tested 5 1 absent (is_directory_inode m r 1) ∷ []) top).1).0
+      (passing_tested codes.Kind 1 absent (is_directory_inode m r 1) [] (passing_tested codes.NoInode 1 absent (has_inode r.inodes 1) (Tested codes.Kind 1 absent (is_directory_inode m r 1) ∷ []) top).1).0
 
   -- ---- what is noted before the inodes
 

@@ -9,6 +9,7 @@ use Rattle.qx_geom.specs.Lists.{is_in}
 use Rattle.qx_geom.proofs.Truths.{same_truth}
 use Rattle.qx_nodes.specs.BlockMap.{BlockMap}
 use Rattle.qx_records.specs.InodeRecord.{kind_of}
+use Rattle.qx_view.specs.declared.findings.Finding.{Finding}
 use Rattle.qx_view.proofs.DirectoryTests.{IsThere, directory_kind, named_passes}
 use Rattle.qx_view.proofs.TestOrder.{first_failing-append, or_else}
 use Rattle.qx_view.proofs.WalkEnds.{AllInRange, after_cases, firsts, firsts-append, inodes, named_listed, new_among, new_counted, unlisted, unlisted_start}
@@ -16,7 +17,7 @@ use Rattle.qx_view.specs.Images.{Roots, inode_places}
 use Rattle.qx_view.specs.Usage.{met_blocks}
 use Rattle.qx_pointers.proofs.PassedTests.{gone-append}
 use Rattle.qx_walk.specs.Inodes.{tests_above}
-use Rattle.qx_view.specs.Walk.{Finding, Met, Taken, Test, Tested, finding_of, first_failing, gone_through, inode_mode, inode_tests, is_directory_inode, listed_after, met_of, named_inodes, new_ones, taken_from, taken_of, tests_of, walked_inodes}
+use Rattle.qx_view.specs.Walk.{Met, Taken, Test, Tested, finding_of, first_failing, gone_through, inode_mode, inode_tests, is_directory_inode, listed_after, met_of, named_inodes, new_ones, taken_from, taken_of, tests_of, walked_inodes}
 
 -- the tests that come before the inodes, and those of the inodes that were taken so far
 abbrev pub tests_so_far : BlockMap → Roots → List Taken → List Test

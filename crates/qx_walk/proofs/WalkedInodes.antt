@@ -15,6 +15,7 @@ use Rattle.qx_records.specs.declared.inode.Inode.{Inode}
 use Rattle.qx_records.specs.declared.kind.Kind.{Kind}
 use Rattle.qx_records.specs.declared.kind.Kind.TheVariants as kinds
 use Rattle.qx_records.specs.InodeRecord.{kind_of}
+use Rattle.qx_view.specs.declared.findings.Code.TheVariants as codes
 use Rattle.qx_view.proofs.TestOrder.{first_failing-append, or_else}
 use Rattle.qx_records.specs.NameRecord.{RawRecord, Unused, Short, Long, Bad}
 use Rattle.qx_model.specs.Tree.{is_dots}
@@ -46,7 +47,7 @@ use Rattle.qx_walk.specs.Trees.{IsNoted, note_if}
 row_meets : (m : BlockMap) (r : Roots) (at : Place) (names : List (List ℕ)) (listed : List ℕ) (n : ℕ) (name : List ℕ) (met : List ℕ) → gone_through met (row_tests m r at names listed n name) ≡ met
 row_meets m r at names listed n name met = go (is_dots name)
   where
-    go : (b : Bool) → gone_through met (if b then Tested 12 at.inode at.block (n == (if length name == 1 then at.inode else at.parent)) ∷ [] else Tested 4 at.inode at.block (has_inode r.inodes n) ∷ Tested 5 at.inode at.block (is_some (kind_of (inode_mode m r n))) ∷ Tested 13 at.inode at.block (not (is_directory_inode m r n && is_in listed n)) ∷ []) ≡ met
+    go : (b : Bool) → gone_through met (if b then Tested codes.Dots at.inode at.block (n == (if length name == 1 then at.inode else at.parent)) ∷ [] else Tested codes.NoInode at.inode at.block (has_inode r.inodes n) ∷ Tested codes.Kind at.inode at.block (is_some (kind_of (inode_mode m r n))) ∷ Tested codes.DirTwice at.inode at.block (not (is_directory_inode m r n && is_in listed n)) ∷ []) ≡ met
     go true = refl
     go false = refl
 
@@ -228,7 +229,7 @@ module _ (m : BlockMap) (r : Roots) (n parent : ℕ) (done : Done) (positive : 0
 
   -- the size of a link
   abbrev size_test : List Test
-  size_test = Tested 6 n absent (not (node.size == 0) && nat_lt node.size 1024) ∷ []
+  size_test = Tested codes.LinkSize n absent (not (node.size == 0) && nat_lt node.size 1024) ∷ []
 
   link_finding : (part : Part) (keeps : Bool) (way new : Way) → kind_of (inode_mode m r n) ≡ Some kinds.Link → WalksNode m n node keeps done.met (Ok part) way new → first_failing done.met (inode_tests m r (taken_with n parent done)) ≡ first_failing (gone_through done.met (own_tests m n node)) size_test
   link_finding part keeps way new is walked = ap (first_failing done.met) (tests_by (Some kinds.Link) is) ∙ first_failing-append done.met (own_tests m n node) size_test
@@ -238,7 +239,7 @@ module _ (m : BlockMap) (r : Roots) (n parent : ℕ) (done : Done) (positive : 0
   pub link_walked : (keeps : Bool) (part : Part) (way new : Way) (seen : Seen) → kind_of (inode_mode m r n) ≡ Some kinds.Link → Remembers m r done way seen → WalksNode m n node keeps done.met (Ok part) way new → new.notes.dots ≡ way.notes.dots
       → (not (node.size == 0) && nat_lt node.size 1024) ≡ true → WalksInode {T = Unit {0}} m r n parent done (Ok tt) new seen
   link_walked keeps part way new seen is w walked dots fits = record {
-    answer = link_finding part keeps way new is walked ∙ ap (λ b. first_failing (gone_through done.met (own_tests m n node)) (Tested 6 n absent b ∷ [])) fits;
+    answer = link_finding part keeps way new is walked ∙ ap (λ b. first_failing (gone_through done.met (own_tests m n node)) (Tested codes.LinkSize n absent b ∷ [])) fits;
     remembers = remembers_plain (Some kinds.Link) way new seen is refl w
         (subst (λ (l : List ℕ). Marks new.met l) (sym (gone-append done.met (own_tests m n node) size_test)) walked.marks)
         (notes_plain (Some kinds.Link) keeps part way new is refl refl w.notes walked dots);
@@ -246,9 +247,9 @@ module _ (m : BlockMap) (r : Roots) (n parent : ℕ) (done : Done) (positive : 0
 
   -- a link of a wrong size
   pub link_halts : (keeps : Bool) (part : Part) (old new way : Way) (seen : Seen) → kind_of (inode_mode m r n) ≡ Some kinds.Link → WalksNode m n node keeps done.met (Ok part) old new
-      → (not (node.size == 0) && nat_lt node.size 1024) ≡ false → WalksInode {T = Unit {0}} m r n parent done (Err (halts.Finding 6 n absent)) way seen
+      → (not (node.size == 0) && nat_lt node.size 1024) ≡ false → WalksInode {T = Unit {0}} m r n parent done (Err (halts.Finding (record { code = codes.LinkSize; inode = n; block = absent }))) way seen
   link_halts keeps part old new way seen is walked wrong = record {
-    answer = link_finding part keeps old new is walked ∙ ap (λ b. first_failing (gone_through done.met (own_tests m n node)) (Tested 6 n absent b ∷ [])) wrong;
+    answer = link_finding part keeps old new is walked ∙ ap (λ b. first_failing (gone_through done.met (own_tests m n node)) (Tested codes.LinkSize n absent b ∷ [])) wrong;
     remembers = tt;
   }
 

@@ -1,5 +1,5 @@
 -- What is said of a volume's layout.
-use Rattle.std.specs.Prelude.{◌≡◌, ◌+◌, ◌*◌, ◌==◌, ◌&&◌, not, ℕ, Bool, List, [], ◌∷◌, Option, Some, None}
+use Rattle.std.specs.Prelude.{◌≡◌, ◌+◌, ◌*◌, ◌==◌, ◌&&◌, not, ℕ, Bool, List, [], ◌∷◌, Option}
 use Rattle.std.specs.List.{list_all, list_any, range_with_len}
 use Rattle.qx_blockset.specs.Members.{Members, count_of, has}
 use Rattle.qx_fields.specs.declared.order.Order.{Order}
@@ -12,15 +12,12 @@ use Rattle.qx_geom.specs.Lists.{each_below, first_below}
 use Rattle.qx_geom.specs.Pointer.{per_block}
 use Rattle.qx_nodes.specs.BlockMap.{BlockMap}
 use Rattle.qx_super.specs.Superblock.{Superblock}
+use Rattle.qx_view.specs.declared.reasons.Reason.TheVariants as reasons
+use Rattle.qx_view.specs.declared.reasons.Foreign.{Foreign as Why}
 use Rattle.qx_view.specs.Images.{Roots, inode_places}
-use Rattle.qx_view.specs.Sound.{Reason, bad_long_name, fails_dots, fails_inodes, fails_nodes, first_some, is_laid_out, reason_at}
-use Rattle.qx_view.specs.Walk.{Finding}
-use Rattle.qx_pointers.specs.declared.halt.Halt.{Halt}
-use Rattle.qx_pointers.specs.declared.halt.Halt.TheVariants as halts
+use Rattle.qx_view.specs.Sound.{bad_long_name, fails_dots, fails_inodes, fails_nodes, first_some, is_laid_out, reason_at}
 use Rattle.qx_pointers.specs.declared.source.Shape.{Shape}
-use Rattle.qx_walk.specs.declared.survey.Foreign.{Foreign}
 use Rattle.qx_walk.specs.declared.walked.Walked.{Walked}
-use Rattle.qx_pointers.specs.Halts.{HaltsAt}
 
 -- the shape is that of a superblock's volume
 pub record IsShapeOf (s : Superblock) (shape : Shape) : Type 0 where
@@ -40,21 +37,6 @@ pub record IsVolumeOf (shape : Shape) (g : Geometry) : Type 0 where
   pub blocksize : g.blocksize ≡ shape.blocksize
   pub count : g.num_blocks ≡ shape.count
 
--- a reason, as the definitions have it
-abbrev pub reason_in : Foreign → Reason
-reason_in f = record { reason = f.reason; at = f.at }
-
--- a last finding is a halt at it, and none is none
-abbrev pub IsLast : Option Finding → Option Halt → Type 0
-IsLast f None = f ≡ None
-IsLast f (Some halt) = HaltsAt f halt
-
--- a halt is at a finding
-abbrev pub IsNamed : Halt → Type 0
-IsNamed (halts.Finding code inode block) = Unit {0}
-IsNamed halts.Device = ⊥
-IsNamed halts.NoMemory = ⊥
-
 -- ---- the halves
 
 -- the bytes of a pointer block have the words that they must have
@@ -73,12 +55,12 @@ is_laid_out_by m s g which met = is_laid_out m s g which && not (has_block_of_ha
 -- ---- what the walk noted
 
 -- the first of the reasons 4 to 7
-abbrev pub later_reason : BlockMap → Roots → List ℕ → Option Reason
+abbrev pub later_reason : BlockMap → Roots → List ℕ → Option Why
 later_reason m r reached =
-    first_some (reason_at 4 (first_below (fails_nodes m r reached) (inode_places r + 1))
-    ∷ reason_at 5 (first_below (fails_dots m r reached) (inode_places r + 1))
-    ∷ reason_at 6 (first_below (fails_inodes m r reached) (inode_places r + 1))
-    ∷ reason_at 7 (bad_long_name m r reached)
+    first_some (reason_at reasons.Nodes (first_below (fails_nodes m r reached) (inode_places r + 1))
+    ∷ reason_at reasons.Dots (first_below (fails_dots m r reached) (inode_places r + 1))
+    ∷ reason_at reasons.Inodes (first_below (fails_inodes m r reached) (inode_places r + 1))
+    ∷ reason_at reasons.LongNames (bad_long_name m r reached)
     ∷ [])
 
 -- ---- counts

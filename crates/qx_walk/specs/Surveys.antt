@@ -4,11 +4,11 @@ use Rattle.qx_geom.specs.declared.area.Which.{Which}
 use Rattle.qx_super.specs.Active.{active_area, active_super}
 use Rattle.qx_super.specs.Superblock.{Superblock}
 use Rattle.qx_super.specs.declared.choice.Pick.TheVariants as picks
+use Rattle.qx_view.specs.declared.reasons.Foreign.{Foreign as Why}
 use Rattle.qx_view.specs.Images.{image_blocks, main_roots}
 use Rattle.qx_view.specs.Sound.{Clean, Damaged, Disagree, Foreign, NoVolume, Verdict, verdict_of}
 use Rattle.qx_view.specs.Usage.{foreign_usage, met_blocks}
 use Rattle.qx_view.specs.Walk.{walked_inodes}
-use Rattle.qx_walk.specs.declared.survey.Foreign.{Foreign as Reason}
 use Rattle.qx_walk.specs.declared.survey.Survey.{Survey}
 use Rattle.qx_walk.specs.declared.survey.WalkFault.{WalkFault}
 use Rattle.qx_walk.specs.declared.survey.WalkFault.TheVariants as faults
@@ -19,22 +19,22 @@ use Rattle.qx_blockset.specs.Members.{count_of}
 use Rattle.qx_walk.specs.declared.walked.Walked.{Walked}
 
 -- the verdict on an image with a tree, of this active area and superblock
-abbrev pub verdict_if : Which → Superblock → Option Reason → Verdict
+abbrev pub verdict_if : Which → Superblock → Option Why → Verdict
 verdict_if which s None = Clean which s
-verdict_if which s (Some f) = Foreign (record { reason = f.reason; at = f.at })
+verdict_if which s (Some f) = Foreign f
 
 -- how many blocks are free: as the superblock says, or where the image is foreign all that weren't met
-abbrev pub free_if : List ℕ → Superblock → Option Reason → ℕ
+abbrev pub free_if : List ℕ → Superblock → Option Why → ℕ
 free_if img s None = s.free_blocks
 free_if img s (Some f) = (foreign_usage (image_blocks img s) (main_roots s) s).free
 
 -- how many blocks are free of a tree that was walked
-abbrev pub free_by : Superblock → Walked → Option Reason → ℕ
+abbrev pub free_by : Superblock → Walked → Option Why → ℕ
 free_by s w None = s.free_blocks
 free_by s w (Some f) = s.num_blocks - count_of w.met
 
 -- the survey of a tree that was walked
-abbrev pub survey_by : Which → Superblock → Walked → Option Reason → Survey
+abbrev pub survey_by : Which → Superblock → Walked → Option Why → Survey
 survey_by which s w foreign = record {
   which = which;
   serial = s.serial;
@@ -67,7 +67,7 @@ pub record IsSurvey (img : List ℕ) (survey : Survey) : Type 0 where
 
 -- the fault of a walk that halted
 abbrev pub fault_of : Halt → WalkFault
-fault_of (halts.Finding code inode block) = faults.Finding code inode block
+fault_of (halts.Finding found) = faults.Finding found
 fault_of halts.Device = faults.Device
 fault_of halts.NoMemory = faults.NoMemory
 
@@ -75,7 +75,7 @@ fault_of halts.NoMemory = faults.NoMemory
 abbrev pub IsFault : List ℕ → WalkFault → Type 0
 IsFault img faults.NoVolume = verdict_of img ≡ NoVolume
 IsFault img faults.Disagree = verdict_of img ≡ Disagree
-IsFault img (faults.Finding code inode block) = verdict_of img ≡ Damaged (record { code = code; inode = inode; block = block })
+IsFault img (faults.Finding found) = verdict_of img ≡ Damaged found
 IsFault img faults.Device = Unit {0}
 IsFault img faults.NoMemory = Unit {0}
 

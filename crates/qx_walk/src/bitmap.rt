@@ -5,11 +5,11 @@ ghost use Rattle.qx_blockset.specs.Members.{limit_of};
 ghost use Rattle.qx_geom.specs.Layout.{IsGeometry};
 ghost use Rattle.qx_geom.specs.Lists.{first_below};
 ghost use Rattle.qx_nodes.specs.BlockMap.{BlockMap};
-ghost use Rattle.qx_view.specs.Walk.{Finding};
 ghost use Rattle.qx_pointers.specs.Halts.{HaltsAt, IsCaused};
 ghost use Rattle.qx_walk.specs.Layouts.{IsVolumeOf};
 ghost use Rattle.qx_walk.specs.Bitmaps.{is_wanted, is_wrong_bit, is_wrong_in, IsFirst, IsWantedByte};
 ghost use Rattle.qx_pointers.specs.Shown.{Fits, JustReads, Shows};
+ghost use Rattle.qx_view.specs.declared.findings.Finding.{Finding};
 
 use crate::halves::first_of_half;
 use qx_blockset::BlockSet;

@@ -27,6 +27,7 @@ use qx_outside::Dev;
 use qx_pointers::{Halt, LeafPlace, Shape, read_block};
 use qx_records::{Kind, Slot, name_sum, name_sum_signed, slot_at};
 use qx_tables::Listing;
+use qx_view::{Code, Finding};
 
 /// Goes through the tests of a directory's records, and lists the inodes that they name.
 /// Answers whether the first two are short ones with the names `.` and `..`; of a directory with a hole, or whose size is 0 or no multiple of the block size, this says nothing.
@@ -154,7 +155,7 @@ fn walk_record<D: Dev>(
 {
     match slot {
         Slot::Unused => Ok(()),
-        Slot::Bad { .. } => Err(found(7, at)),
+        Slot::Bad { .. } => Err(found(Code::Record, at)),
         Slot::Short { inode, name } => walk_row(ground, at, inode, name, seen),
         Slot::Long { inode, number, sum } => walk_long(host, ground, at, inode, number, sum, seen),
     }
@@ -188,10 +189,10 @@ fn walk_long<D: Dev>(
     let mut buffer = [0; 4096];
     let leaf = &mut buffer[0..ground.shape.blocksize as usize];
     let Some(name) = seen.longs.read(host, ground.shape, number, leaf)? else {
-        return Err(found(8, at));
+        return Err(found(Code::LongName, at));
     };
     if !is_sum_of(sum, name) {
-        return Err(found(9, at));
+        return Err(found(Code::LongSum, at));
     }
     walk_row(ground, at, inode, name, seen)?;
     seen.longs.count(number);
@@ -217,25 +218,25 @@ fn walk_row(
     ensures no_fault { result ≢ Err halts.Device }
 {
     if !is_plain(name) {
-        return Err(found(11, at));
+        return Err(found(Code::NameByte, at));
     }
     if !seen.names.add(name)? {
-        return Err(found(10, at));
+        return Err(found(Code::SameName, at));
     }
     if is_dots(name) {
         if inode != wanted(at, name) {
-            return Err(found(12, at));
+            return Err(found(Code::Dots, at));
         }
         return Ok(());
     }
     if inode > ground.table.places() {
-        return Err(found(4, at));
+        return Err(found(Code::NoInode, at));
     }
     let Some(kind) = Kind::of(ground.table.inode(inode).mode) else {
-        return Err(found(5, at));
+        return Err(found(Code::Kind, at));
     };
     if is_again(kind, inode, &seen.listing) {
-        return Err(found(13, at));
+        return Err(found(Code::DirTwice, at));
     }
     seen.listing.put(inode, at.inode)
 }
@@ -264,14 +265,14 @@ fn is_again(kind: Kind, inode: u32, listing: &Listing) -> bool
 }
 
 /// The halt at a test that fails at a record.
-fn found(code: u8, at: RecordPlace) -> Halt
-    ensures { result ≡ halts.Finding code at.inode at.block }
+fn found(code: Code, at: RecordPlace) -> Halt
+    ensures { result ≡ halts.Finding (record { code = code; inode = at.inode; block = at.block }) }
 {
-    Halt::Finding {
+    Halt::Finding(Finding {
         code,
         inode: at.inode,
         block: at.block,
-    }
+    })
 }
 
 /// Whether a name has no byte 0 and no `/`.

@@ -3,8 +3,8 @@ ghost use Rattle.std.specs.Prelude.{◌≡◌, ◌+◌, ◌≤◌, IfOk, length,
 ghost use Rattle.qx_blockset.specs.Members.{limit_of};
 ghost use Rattle.qx_geom.specs.Layout.{IsGeometry, IsPointerBlock, first_block, tree_base, tree_leaves, tree_pointers};
 ghost use Rattle.qx_nodes.specs.BlockMap.{BlockMap};
+ghost use Rattle.qx_view.specs.declared.findings.Finding.{Finding};
 ghost use Rattle.qx_view.specs.Sound.{has_system_trees, is_system_tree};
-ghost use Rattle.qx_view.specs.Walk.{Finding};
 ghost use Rattle.qx_pointers.specs.Halts.{HaltsAt, IsCaused};
 ghost use Rattle.qx_walk.specs.Layouts.{IsVolumeOf, are_words_of, has_block_of_half, is_laid_out_by};
 ghost use Rattle.qx_pointers.specs.Shown.{Fits, JustReads, Shows};

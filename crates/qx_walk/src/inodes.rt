@@ -19,6 +19,7 @@ use qx_outside::Dev;
 use qx_pointers::Halt;
 use qx_records::Kind;
 use qx_tables::Queued;
+use qx_view::{Code, Finding};
 
 /// Walks the inodes that are listed and those that they list, each in its turn.
 pub(crate) fn walk_inodes<D: Dev>(
@@ -87,11 +88,11 @@ fn walk_inode<D: Dev>(
         Kind::Link => {
             walk_own_node(host, ground.shape, queued.inode, &inode.root, false, way)?;
             if !is_link_size(inode.root.size) {
-                return Err(Halt::Finding {
-                    code: 6,
+                return Err(Halt::Finding(Finding {
+                    code: Code::LinkSize,
                     inode: queued.inode,
                     block: ABSENT,
-                });
+                }));
             }
             Ok(())
         }

@@ -1,29 +1,30 @@
 //! Whether a volume is laid out as this project writes it, and counted right.
 ghost use Rattle.std.specs.Prelude.{◌≡◌, ◌<◌, ◌≤◌, ◌+◌, ℕ, not, Some, None, IfOk, IfSome, IfErr, Option};
-ghost use Rattle.std.specs.Option.{option_map};
 ghost use Rattle.qx_blockset.specs.Members.{limit_of};
 ghost use Rattle.qx_geom.specs.declared.area.Which.{Which as Area};
 ghost use Rattle.qx_geom.specs.Layout.{IsGeometry};
 ghost use Rattle.qx_geom.specs.Lists.{first_below};
 ghost use Rattle.qx_nodes.specs.BlockMap.{BlockMap};
+ghost use Rattle.qx_view.specs.declared.findings.Finding.{Finding};
 ghost use Rattle.qx_view.specs.Images.{Roots, inode_places, main_roots};
 ghost use Rattle.qx_view.specs.Sound.{fails_inodes, is_empty_root, is_written_by, is_written_inode, last_with, reason_with, written_geometry};
-ghost use Rattle.qx_view.specs.Walk.{Finding, walked_inodes};
+ghost use Rattle.qx_view.specs.Walk.{walked_inodes};
 ghost use Rattle.qx_pointers.specs.Halts.{HaltsAt, IsCaused};
-ghost use Rattle.qx_walk.specs.Layouts.{HasNumbers, IsLast, IsNamed, IsShapeOf, has_right_counts, later_reason, reason_in};
+ghost use Rattle.qx_walk.specs.Layouts.{HasNumbers, IsShapeOf, has_right_counts, later_reason};
 ghost use Rattle.qx_pointers.specs.Shown.{Fits, JustReads, Shows};
 ghost use Rattle.qx_tables.specs.Tables.{HoldsInodes, places_of};
 ghost use Rattle.qx_walk.specs.Trees.{HasBounds, IsWalked};
 
+use crate::Walked;
 use crate::bitmap::first_wrong_bit;
 use crate::halves::is_laid_out;
-use crate::{Foreign, Walked};
 use qx_geom::{ABSENT, Geometry, Root, Which};
 use qx_outside::Dev;
 use qx_pointers::{Halt, Shape};
 use qx_records::Kind;
 use qx_super::{RootName, SuperView};
 use qx_tables::InodeTable;
+use qx_view::{Code, Finding, Foreign, Reason};
 
 /// The geometry that this project writes for a superblock on a device of `len` bytes; none where it would write other numbers.
 pub fn geometry_of(view: &SuperView<'_>, len: u64) -> Option<Geometry>
@@ -75,20 +76,29 @@ pub fn first_reason<D: Dev>(
     requires bounds { HasBounds shape.count walked.now }
     requires fits { Fits shape (D.outside host.old) }
     ensures reason { (m : BlockMap) (len : ℕ) → Shows shape (D.outside host.new) m → written_geometry view.now len ≡ geometry → IsWalked m (main_roots view.now) walked.now
-        → IfOk result (λ reason. option_map reason_in reason ≡ reason_with m view.now which geometry) }
+        → IfOk result (λ why. why ≡ reason_with m view.now which geometry) }
     ensures fits { Fits shape (D.outside host.new) }
     ensures reads { JustReads (D.outside host.old) (D.outside host.new) }
     ensures cause { IsCaused (D.outside host.old).dev_faults (D.outside host.new).dev_faults result }
     ensures no_finding { (f : Option Finding) → IfErr result (HaltsAt f) }
 {
     let Some(geometry) = geometry else {
-        return Ok(Some(Foreign { reason: 1, at: 0 }));
+        return Ok(Some(Foreign {
+            reason: Reason::Numbers,
+            at: 0,
+        }));
     };
     if !is_laid_out(host, shape, view, which, &geometry, &walked.met)? {
-        return Ok(Some(Foreign { reason: 2, at: 0 }));
+        return Ok(Some(Foreign {
+            reason: Reason::Halves,
+            at: 0,
+        }));
     }
     if let Some(at) = first_wrong_bit(host, shape, which, &geometry, &walked.met)? {
-        return Ok(Some(Foreign { reason: 3, at }));
+        return Ok(Some(Foreign {
+            reason: Reason::Bitmap,
+            at,
+        }));
     }
     Ok(noted_reason(walked))
 }
@@ -96,28 +106,31 @@ pub fn first_reason<D: Dev>(
 /// The first of the reasons 4 to 7, by what the walk noted.
 fn noted_reason(walked: &Walked) -> Option<Foreign>
     requires { limit_of walked.now.reached ≡ places_of walked.now.table }
-    ensures { (m : BlockMap) (r : Roots) → IsWalked m r walked.now → option_map reason_in result ≡ later_reason m r (walked_inodes m r) }
+    ensures { (m : BlockMap) (r : Roots) → IsWalked m r walked.now → result ≡ later_reason m r (walked_inodes m r) }
 {
     if let Some(n) = walked.notes.nodes {
         return Some(Foreign {
-            reason: 4,
+            reason: Reason::Nodes,
             at: u64::from(n),
         });
     }
     if let Some(n) = walked.notes.dots {
         return Some(Foreign {
-            reason: 5,
+            reason: Reason::Dots,
             at: u64::from(n),
         });
     }
     if let Some(n) = first_foreign_inode(walked) {
         return Some(Foreign {
-            reason: 6,
+            reason: Reason::Inodes,
             at: u64::from(n),
         });
     }
     let at = walked.long?;
-    Some(Foreign { reason: 7, at })
+    Some(Foreign {
+        reason: Reason::LongNames,
+        at,
+    })
 }
 
 /// The least inode that is reached and not as this project writes it, or isn't reached and has a byte that isn't 0.
@@ -160,16 +173,15 @@ fn is_written_inode(table: &InodeTable, n: u32) -> bool
 }
 
 /// The last finding, where no reason applies: a byte past the size of the Inode tree or of a reached inode, or counts that are wrong.
-pub fn last_finding(view: &SuperView<'_>, geometry: &Geometry, walked: &Walked) -> Option<Halt>
+pub fn last_finding(view: &SuperView<'_>, geometry: &Geometry, walked: &Walked) -> Option<Finding>
     requires geometry { IsGeometry geometry.now }
     requires bounds { HasBounds geometry.now.num_blocks walked.now }
-    ensures last { (m : BlockMap) (len : ℕ) (which : Area) → m.size ≡ geometry.now.blocksize → m.count ≡ geometry.now.num_blocks → written_geometry view.now len ≡ Some geometry.now → IsWalked m (main_roots view.now) walked.now
-        → reason_with m view.now which (Some geometry.now) ≡ None → IsLast (last_with m view.now (Some geometry.now)) result }
-    ensures named { IfSome result IsNamed }
+    ensures { (m : BlockMap) (len : ℕ) (which : Area) → m.size ≡ geometry.now.blocksize → m.count ≡ geometry.now.num_blocks → written_geometry view.now len ≡ Some geometry.now → IsWalked m (main_roots view.now) walked.now
+        → reason_with m view.now which (Some geometry.now) ≡ None → result ≡ last_with m view.now (Some geometry.now) }
 {
     if let Some(n) = walked.notes.tails {
-        return Some(Halt::Finding {
-            code: 14,
+        return Some(Finding {
+            code: Code::Tail,
             inode: n,
             block: ABSENT,
         });
@@ -177,8 +189,8 @@ pub fn last_finding(view: &SuperView<'_>, geometry: &Geometry, walked: &Walked) 
     if has_right_counts(view, geometry, walked) {
         None
     } else {
-        Some(Halt::Finding {
-            code: 15,
+        Some(Finding {
+            code: Code::Counts,
             inode: 0,
             block: ABSENT,
         })
@@ -203,13 +215,12 @@ pub fn last_of(
     geometry: Option<Geometry>,
     foreign: Option<Foreign>,
     walked: &Walked,
-) -> Option<Halt>
+) -> Option<Finding>
     requires geometry { IfSome geometry (HasNumbers view.now) }
     requires bounds { HasBounds view.now.num_blocks walked.now }
     ensures last { (m : BlockMap) (len : ℕ) (which : Area) → m.size ≡ view.now.blocksize → m.count ≡ view.now.num_blocks → written_geometry view.now len ≡ geometry → IsWalked m (main_roots view.now) walked.now
-        → reason_with m view.now which geometry ≡ None → foreign ≡ None → IsLast (last_with m view.now geometry) result }
+        → reason_with m view.now which geometry ≡ None → foreign ≡ None → result ≡ last_with m view.now geometry }
     ensures foreign { IfSome foreign (λ f. result ≡ None) }
-    ensures named { IfSome result IsNamed }
 {
     match (foreign, geometry) {
         (None, Some(geometry)) => last_finding(view, &geometry, walked),

@@ -25,6 +25,6 @@ use directory::walk_records;
 use notes::Notes;
 use roots::RootNodes;
 use seen::{Directory, Ground, RecordPlace, Seen};
-pub use survey::{Foreign, Survey, WalkFault};
+pub use survey::{Survey, WalkFault};
 pub use surveying::walk;
 use walked::Walked;

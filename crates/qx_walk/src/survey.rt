@@ -4,13 +4,7 @@ use qx_blockset::BlockSet;
 use qx_fields::Order;
 use qx_geom::Which;
 use qx_pointers::Halt;
-
-/// Why an image with a tree isn't laid out as this project writes it: the reason's number, 1 to 7, and the least number to which it applies.
-#[derive(Clone, Copy, Debug, PartialEq, Eq)]
-pub struct Foreign {
-    pub reason: u8,
-    pub at: u64,
-}
+use qx_view::{Finding, Foreign};
 
 /// What an image is that has a tree.
 #[derive(Drop)]
@@ -42,8 +36,8 @@ pub enum WalkFault {
     NoVolume,
     /// Both areas are valid, and are not of one volume.
     Disagree,
-    /// The image is damaged: the code of the first test that fails, the inode under the walk (0 for root nodes) and the block in question, or `ABSENT`.
-    Finding { code: u8, inode: u32, block: u32 },
+    /// The image is damaged: the first test that fails.
+    Finding(Finding),
     /// A device call failed.
     Device,
     /// There was no memory for what the walk keeps.
@@ -59,7 +53,7 @@ impl WalkFault {
         ensures { result ≡ fault_of halt }
     {
         match halt {
-            Halt::Finding { code, inode, block } => WalkFault::Finding { code, inode, block },
+            Halt::Finding(finding) => WalkFault::Finding(finding),
             Halt::Device => WalkFault::Device,
             Halt::NoMemory => WalkFault::NoMemory,
         }

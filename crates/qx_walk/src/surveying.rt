@@ -12,11 +12,12 @@ ghost use Rattle.qx_walk.specs.Surveys.{SaysOf, survey_by};
 
 use crate::layout::{first_reason, geometry_of, last_of};
 use crate::tree::walk_tree;
-use crate::{Foreign, RootNodes, Survey, WalkFault, Walked};
+use crate::{RootNodes, Survey, WalkFault, Walked};
 use qx_geom::Which;
 use qx_outside::Dev;
 use qx_pointers::Shape;
 use qx_super::{Pick, RootName, SuperView, active_view, areas};
+use qx_view::Foreign;
 use std::alloc::Global;
 
 /// Walks an image of `len` bytes, and says what it is: which area is active, what its tree holds, and whether it is laid out as this project writes it.
@@ -81,7 +82,7 @@ fn survey<D: Dev>(
     };
     let last = last_of(view, geometry, foreign, &walked);
     match last {
-        Some(halt) => Err(WalkFault::of(halt)),
+        Some(finding) => Err(WalkFault::Finding(finding)),
         None => Ok(survey_of(which, view, walked, foreign)),
     }
 }

@@ -20,6 +20,7 @@ use qx_outside::Dev;
 use qx_pointers::{Halt, Shape, Visitor, walk_node};
 use qx_records::Kind;
 use qx_tables::{InodeTable, Listing, LongNames, Names};
+use qx_view::{Code, Finding};
 use std::alloc::Global;
 
 /// Walks the tree that begins at these root nodes, to its first finding.
@@ -92,18 +93,18 @@ fn test_top(table: &InodeTable) -> Result<(), Halt>
     ensures cause { (faults : ℕ) → IsCaused faults faults result }
 {
     if table.places() == 0 {
-        return Err(Halt::Finding {
-            code: 4,
+        return Err(Halt::Finding(Finding {
+            code: Code::NoInode,
             inode: 1,
             block: ABSENT,
-        });
+        }));
     }
     match Kind::of(table.inode(1).mode) {
         Some(Kind::Directory) => Ok(()),
-        None | Some(Kind::File | Kind::Link | Kind::Special) => Err(Halt::Finding {
-            code: 5,
+        None | Some(Kind::File | Kind::Link | Kind::Special) => Err(Halt::Finding(Finding {
+            code: Code::Kind,
             inode: 1,
             block: ABSENT,
-        }),
+        })),
     }
 }

@@ -1,17 +1,17 @@
 use Rattle.std.proofs.lemmas.Result.{err_from_is_err_and}
 use Rattle.std.proofs.Common.{◌≡◌, sym, ◌∙◌, subst}
 use Rattle.std.specs.Prelude.{Option, Some}
-use Rattle.std.specs.Option.{option_map}
+use Rattle.qx_view.specs.declared.reasons.Reason.TheVariants as reasons
+use Rattle.qx_view.specs.declared.reasons.Foreign.{Foreign as Why}
 use Rattle.qx_view.specs.Images.{main_roots}
-use Rattle.qx_view.specs.Sound.{Reason, reason_with}
-use Rattle.qx_walk.specs.Layouts.{reason_in}
+use Rattle.qx_view.specs.Sound.{reason_with}
 use Rattle.qx_walk.proofs.FirstReasons.{not_laid_out, right_bitmap, wrong_bitmap}
 use Rattle.qx_pointers.proofs.ShownBlocks.{shown_count, shown_size, shows_before}
 use Rattle.qx_walk.proofs.layout.first_reason.Goals as goal
 
 pub returns-then-not-branch-clause-reason : goal.returns-then-not-branch-clause-reason
 returns-then-not-branch-clause-reason g c = λ m len shows written is.
-    let two : Option Reason = Some (record { reason = 2; at = 0 }) in
+    let two : Option Why = Some (record { reason = reasons.Halves; at = 0 }) in
     let count : m.count ≡ c.args.shape.count = shown_count c.args.shape (g.D.Dev.outside c.is_laid_out.new.host) m shows in
     subst (λ o. two ≡ reason_with m c.args.view.now c.args.which o) (sym c.in-Some.is)
     (not_laid_out m c.args.view.now len c.in-Some.geometry c.args.which c.args.walked.now (shown_size c.args.shape (g.D.Dev.outside c.is_laid_out.new.host) m shows ∙ c.requires.shape.blocksize) (count ∙ c.requires.shape.count) (c.requires.bounds.blocks ∙ sym count)
@@ -19,7 +19,7 @@ returns-then-not-branch-clause-reason g c = λ m len shows written is.
 
 pub returns-in-Some-2-clause-reason : goal.returns-in-Some-2-clause-reason
 returns-in-Some-2-clause-reason g c = λ m len shows written is.
-    let three : Option Reason = Some (record { reason = 3; at = c.in-Some-2.at }) in
+    let three : Option Why = Some (record { reason = reasons.Bitmap; at = c.in-Some-2.at }) in
     let count : m.count ≡ c.args.shape.count = shown_count c.args.shape (g.D.Dev.outside c.first_wrong_bit.new.host) m shows in
     subst (λ o. three ≡ reason_with m c.args.view.now c.args.which o) (sym c.in-Some.is)
     (wrong_bitmap m c.args.view.now len c.in-Some.geometry c.args.which c.args.walked.now (shown_size c.args.shape (g.D.Dev.outside c.first_wrong_bit.new.host) m shows ∙ c.requires.shape.blocksize) (count ∙ c.requires.shape.count) (c.requires.bounds.blocks ∙ sym count)
@@ -30,7 +30,7 @@ returns-in-Some-2-clause-reason g c = λ m len shows written is.
 pub returns-clause-reason : goal.returns-clause-reason
 returns-clause-reason g c = λ m len shows written is.
     let count : m.count ≡ c.args.shape.count = shown_count c.args.shape (g.D.Dev.outside c.first_wrong_bit.new.host) m shows in
-    subst (λ o. option_map reason_in c.noted_reason.result ≡ reason_with m c.args.view.now c.args.which o) (sym c.in-Some.is)
+    subst (λ o. c.noted_reason.result ≡ reason_with m c.args.view.now c.args.which o) (sym c.in-Some.is)
     (c.noted_reason.ensures m (main_roots c.args.view.now) is
     ∙ right_bitmap m c.args.view.now len c.in-Some.geometry c.args.which c.args.walked.now (shown_size c.args.shape (g.D.Dev.outside c.first_wrong_bit.new.host) m shows ∙ c.requires.shape.blocksize) (count ∙ c.requires.shape.count) (c.requires.bounds.blocks ∙ sym count)
     (written ∙ c.in-Some.is) is

@@ -1,14 +1,12 @@
 use Rattle.std.proofs.Common.{◌≡◌, [], ◌∷◌, length, refl, sym, ◌∙◌, ap, subst, None}
 use Rattle.std.specs.Prelude.{IfSome}
-use Rattle.std.specs.Option.{option_map}
 use Rattle.qx_nodes.specs.BlockMap.{BlockMap}
 use Rattle.qx_pointers.specs.Halts.{HaltsAt}
 use Rattle.qx_pointers.proofs.ShownBlocks.{reads_then, shows_before}
 use Rattle.qx_super.specs.Superblock.{Superblock}
 use Rattle.qx_view.specs.Images.{Roots, image_blocks, main_roots}
-use Rattle.qx_view.specs.Sound.{last_with, reason_with, written_geometry}
+use Rattle.qx_view.specs.Sound.{reason_with, written_geometry}
 use Rattle.qx_view.specs.Walk.{finding_of}
-use Rattle.qx_walk.specs.Layouts.{IsLast, reason_in}
 use Rattle.qx_walk.specs.Surveys.{IsFault, IsSurvey}
 use Rattle.qx_walk.specs.Trees.{IsWalked}
 use Rattle.qx_walk.proofs.Surveyed.{halted, halted_last, no_reason, shown_blocks, surveyed}
@@ -36,11 +34,10 @@ returns-in-Some-clause-says g c = λ img told bytes active names.
     let is : IsWalked m (main_roots s) c.in-Ok.walked = subst (λ r. IsWalked m r c.in-Ok.walked) roots (c.in-Ok.ensures.walked m (shows_before _ (g.D.Dev.outside c.walk_tree.new.host) (g.D.Dev.outside c.first_reason.new.host) m c.first_reason.ensures.reads (shown_blocks _ s img (g.D.Dev.outside c.args.host.now) (g.D.Dev.outside c.first_reason.new.host) (record { order = c.order.ensures; blocksize = c.blocksize.ensures; count = c.num_blocks.ensures }) reads told bytes))) in
     let long : c.args.len ≡ length img = sym (subst (λ o. IfSome o (λ n. n ≡ c.args.len)) (g.met.D.Dev.extent_is c.args.host.now (reads.before told)) c.requires.len) ∙ ap length bytes in
     let written : written_geometry s c.args.len ≡ c.geometry_of-geometry.result = sym c.geometry_of-geometry.ensures.geometry in
-    let none : c.in-Ok-first_reason.foreign ≡ None = no_reason c.in-Ok-first_reason.foreign c.last_of-last.result c.in-Some.halt c.last_of-last.ensures.foreign c.in-Some.is in
-    let reason : reason_with m s c.args.which c.geometry_of-geometry.result ≡ None = sym (c.in-Ok-first_reason.ensures.reason m c.args.len (shown_blocks _ s img (g.D.Dev.outside c.args.host.now) (g.D.Dev.outside c.first_reason.new.host) (record { order = c.order.ensures; blocksize = c.blocksize.ensures; count = c.num_blocks.ensures }) reads told bytes) written is) ∙ ap (option_map reason_in) none in
-    subst (IsFault img) (sym c.of-in-Some.ensures)
-    (halted_last img c.args.which s active names c.in-Ok.walked is c.geometry_of-geometry.result (ap (written_geometry s) (sym long) ∙ written) c.in-Some.halt reason c.in-Some.ensures.named
-    (subst (IsLast (last_with m s c.geometry_of-geometry.result)) c.in-Some.is (c.last_of-last.ensures.last m c.args.len c.args.which refl refl written is reason none)))
+    let none : c.in-Ok-first_reason.foreign ≡ None = no_reason c.in-Ok-first_reason.foreign c.last_of-last.result c.in-Some.finding c.last_of-last.ensures.foreign c.in-Some.is in
+    let reason : reason_with m s c.args.which c.geometry_of-geometry.result ≡ None = sym (c.in-Ok-first_reason.ensures.reason m c.args.len (shown_blocks _ s img (g.D.Dev.outside c.args.host.now) (g.D.Dev.outside c.first_reason.new.host) (record { order = c.order.ensures; blocksize = c.blocksize.ensures; count = c.num_blocks.ensures }) reads told bytes) written is) ∙ none in
+    halted_last img c.args.which s active names c.in-Ok.walked is c.geometry_of-geometry.result (ap (written_geometry s) (sym long) ∙ written) c.in-Some.finding reason
+    (sym (c.last_of-last.ensures.last m c.args.len c.args.which refl refl written is reason none) ∙ c.in-Some.is)
 
 pub returns-in-None-clause-says : goal.returns-in-None-clause-says
 returns-in-None-clause-says g c = λ img told bytes active names.
@@ -51,7 +48,7 @@ returns-in-None-clause-says g c = λ img told bytes active names.
     let is : IsWalked m (main_roots s) c.in-Ok.walked = subst (λ r. IsWalked m r c.in-Ok.walked) roots (c.in-Ok.ensures.walked m (shows_before _ (g.D.Dev.outside c.walk_tree.new.host) (g.D.Dev.outside c.first_reason.new.host) m c.first_reason.ensures.reads (shown_blocks _ s img (g.D.Dev.outside c.args.host.now) (g.D.Dev.outside c.first_reason.new.host) (record { order = c.order.ensures; blocksize = c.blocksize.ensures; count = c.num_blocks.ensures }) reads told bytes))) in
     let long : c.args.len ≡ length img = sym (subst (λ o. IfSome o (λ n. n ≡ c.args.len)) (g.met.D.Dev.extent_is c.args.host.now (reads.before told)) c.requires.len) ∙ ap length bytes in
     let written : written_geometry s c.args.len ≡ c.geometry_of-geometry.result = sym c.geometry_of-geometry.ensures.geometry in
-    let reason : option_map reason_in c.in-Ok-first_reason.foreign ≡ reason_with m s c.args.which c.geometry_of-geometry.result = c.in-Ok-first_reason.ensures.reason m c.args.len (shown_blocks _ s img (g.D.Dev.outside c.args.host.now) (g.D.Dev.outside c.first_reason.new.host) (record { order = c.order.ensures; blocksize = c.blocksize.ensures; count = c.num_blocks.ensures }) reads told bytes) written is in
+    let reason : c.in-Ok-first_reason.foreign ≡ reason_with m s c.args.which c.geometry_of-geometry.result = c.in-Ok-first_reason.ensures.reason m c.args.len (shown_blocks _ s img (g.D.Dev.outside c.args.host.now) (g.D.Dev.outside c.first_reason.new.host) (record { order = c.order.ensures; blocksize = c.blocksize.ensures; count = c.num_blocks.ensures }) reads told bytes) written is in
     subst (IsSurvey img) (sym c.survey_of.ensures)
     (surveyed img c.args.which s active names c.in-Ok.walked is c.geometry_of-geometry.result (ap (written_geometry s) (sym long) ∙ written) c.in-Ok-first_reason.foreign (c.in-Ok.ensures.bounds.blocks ∙ c.num_blocks.ensures) reason
-    (λ none. subst (IsLast (last_with m s c.geometry_of-geometry.result)) c.in-None.is (c.last_of-last.ensures.last m c.args.len c.args.which refl refl written is (sym reason ∙ ap (option_map reason_in) none) none)))
+    (λ none. sym (c.last_of-last.ensures.last m c.args.len c.args.which refl refl written is (sym reason ∙ none) none) ∙ c.in-None.is))
