@@ -8,7 +8,7 @@
 
 mod real;
 
-use qx_top::{Ended, Status, USAGE, run, say};
+use qx_top::{Ended, Line, Status, run, say};
 use real::RealHost;
 use std::process::ExitCode;
 use std::rt::Env;
@@ -22,10 +22,10 @@ fn main(rt: HostRuntime) -> ExitCode {
             status
         }
         Err(error) if error.kind() == io::ErrorKind::OutOfMemory => {
-            say(&mut host, "out of memory\n", Status::NoMemory).code()
+            say(&mut host, Line::NoMemory, Status::NoMemory).code()
         }
         // A word that is not UTF-8 is no word of any tool.
-        Err(_) => say(&mut host, USAGE, Status::BadWords).code(),
+        Err(_) => say(&mut host, Line::Usage, Status::BadWords).code(),
     };
     ExitCode::from(status)
 }

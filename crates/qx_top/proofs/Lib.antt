@@ -1,6 +1,6 @@
 pub mod Readings
+pub mod ReadRuns
 pub mod MakerRuns
+pub mod RunEnds
 pub mod SizeWords
 pub mod VerdictRuns
-pub mod VolumeEnds
-pub mod Words

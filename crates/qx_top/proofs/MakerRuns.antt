@@ -1,5 +1,5 @@
 -- The maker's run, put together from its calls: the clock, the attach, the maker, and what is said at the end.
-use Rattle.std.proofs.Common.{◌≡◌, ◌≢◌, ◌⊎◌, inl, inr, ℕ, List, ◌∷◌, ◌++◌, take, Option, refl, sym, ap, ◌∙◌, subst, append-nil, arith}
+use Rattle.std.proofs.Common.{◌≡◌, ◌≢◌, ◌⊎◌, inl, inr, ℕ, List, ◌∷◌, ◌++◌, take, Option, Some, length, refl, sym, ap, ◌∙◌, subst, append-nil, arith}
 use Rattle.std.specs.Prelude.{IsTrue, Result, Ok, Err}
 use Rattle.std.proofs.lemmas.Bool.{cases_eq}
 use Rattle.qx_outside.specs.declared.event.Attachment.{Attachment}
@@ -13,7 +13,7 @@ use Rattle.qx_outside.proofs.Throughout.{throughout_first, throughout_here, thro
 use Rattle.qx_geom.specs.declared.geometry.GeomFault.{GeomFault}
 use Rattle.qx_geom.specs.declared.geometry.Geometry.{Geometry}
 use Rattle.qx_view.specs.FalseSuperblocks.{MayStand, kept, asked, invalid}
-use Rattle.qx_make.specs.declared.options.Made.{Made}
+use Rattle.qx_make.specs.declared.options.Made.{Made as Numbers}
 use Rattle.qx_make.specs.declared.options.MakeFault.{MakeFault}
 use Rattle.qx_make.specs.declared.options.MakeFault.TheVariants as faults
 use Rattle.qx_make.specs.declared.options.MakeOptions.{MakeOptions}
@@ -23,10 +23,15 @@ use Rattle.qx_super.specs.Active.{active_area}
 use Rattle.qx_make.specs.Cut.{IsLeftByMaker, nothing, old_volume, IsReadyToMake, LeavesByMaker}
 use Rattle.qx_make.specs.Make.{HasMade, KeepsQuiet, MakesAtEachMoment, geometry_for, made_of, moments_told, tree_for}
 use Rattle.qx_make.specs.Stages.{AsksOneLength}
-use Rattle.qx_top.specs.Lines.{device_fault, made_line}
-use Rattle.qx_top.specs.Run.{Says}
+use Rattle.qx_top.specs.declared.lines.Line.{Line}
+use Rattle.qx_top.specs.declared.lines.Line.TheVariants.{DeviceFault, Made}
+use Rattle.qx_top.specs.declared.sizes.VolumeOptions.{VolumeOptions}
+use Rattle.qx_top.specs.Lines.{text_of}
+use Rattle.qx_top.specs.Run.{IsLeft, IsSafe}
+use Rattle.qx_top.specs.Says.{Attaches, Says}
 use Rattle.qx_top.specs.Sizes.{options_of}
-use Rattle.qx_top.specs.Volumes.{AddsPartOf, MakesAt, created}
+use Rattle.qx_top.specs.Volumes.{Adds, AddsPartOf, HasVolume, MakesAt, created}
+use Rattle.qx_top.proofs.ReadRuns.{Spoke, spoke_says}
 
 -- ---- what the console and the clock leave as it is
 
@@ -63,7 +68,7 @@ module _ (old : List ℕ) (o : MakeOptions) where
 -- ---- the maker's answer
 
 -- where the numbers are a volume's, the maker fails for the device alone
-pub fails_by_device : {P : Type 0} (o : MakeOptions) (g : Geometry) (answer : Result Made MakeFault) (fault : MakeFault) → answer ≡ Err fault → geometry_for o ≡ Ok g
+pub fails_by_device : {P : Type 0} (o : MakeOptions) (g : Geometry) (answer : Result Numbers MakeFault) (fault : MakeFault) → answer ≡ Err fault → geometry_for o ≡ Ok g
     → ((why : GeomFault) → answer ≡ Err (faults.Geom why) → geometry_for o ≡ Err why) → (answer ≡ Err faults.Device → P) → P
 fails_by_device o g answer (faults.Geom why) is volume geom device = absurd (cc (volume, geom why is))
 fails_by_device o g answer faults.Device is volume geom device = device is
@@ -86,10 +91,6 @@ ready_later : (moment : ℕ) (h : History) → IsReadyToMake h → IsReadyToMake
 ready_later moment h ready = record { settled = record { quiet = ready.settled.quiet }; agree = ready.agree; alone = ready.alone }
 
 -- ---- what is said at the end
-
--- a text was given, or nothing
-abbrev pub Spoke : History → History → Type 0
-Spoke a b = (b ≡ a) ⊎ ((bytes : List ℕ) × (b ≡ after (gave bytes) a))
 
 spoke_moments : (a b : History) → Spoke a b → moments_told b.deeds ≡ moments_told a.deeds
 spoke_moments a b (inl same) = ap (λ (h : History). moments_told h.deeds) same
@@ -119,27 +120,39 @@ spoke_made o g old a b (inr said) m =
 -- ---- the run
 
 -- what is known before the last line is given
-pub record IsUnderway (image : List ℕ) (size moment : ℕ) (old new : Outside) : Type 0 where
+pub record IsUnderway (image : List ℕ) (v : VolumeOptions) (moment : ℕ) (old new : Outside) : Type 0 where
   pub before : IsTrue new.tells → IsTrue old.tells
-  pub paths : Becomes old.attached new.attached (λ before now. now ≡ created image ∷ before)
+  pub paths : Attaches (created image) old new
   pub clock : IsTrue new.tells → moments_told new.history.deeds ≡ moment ∷ moments_told old.history.deeds
   pub taken : IsTrue new.tells → input new.history ≡ input old.history
   pub silent : IsTrue new.tells → output new.history ≡ output old.history
-  pub any_moment : IsTrue new.tells → IsReadyToMake old.history
-      → HoldsThroughout (LeavesByMaker (bytes_of old.history) size (tree_for (options_of size moment))) old.history new.history
-  pub lengths : IsTrue new.tells → AsksOneLength size old.history new.history
+  pub any_moment : IsTrue new.tells → IsReadyToMake old.history → HoldsThroughout (IsLeft (Some v) moment old.history) old.history new.history
+  pub lengths : IsTrue new.tells → AsksOneLength v.size old.history new.history
 
-module _ (image : List ℕ) (size moment : ℕ) where
+-- at most one moment was told, and it is this one
+same_moment : (moment other : ℕ) (old new : List ℕ) → new ≡ moment ∷ old → (new ≡ other ∷ old) ⊎ (new ≡ old) → other ≡ moment
+same_moment moment other old new told (inl same) = cc
+same_moment moment other old new told (inr none) = absurd (omega (arith, ap length (sym none ∙ told)))
+
+-- a clock that fails leaves the device as it was
+pub safe_without_moment : (v : VolumeOptions) (old new : Outside) → Idles old new → IsSafe (Some v) old new
+safe_without_moment v old new idle = record {
+  before = idle.before;
+  step = λ moment t ready told.
+      subst (λ (h : History). HoldsThroughout (IsLeft (Some v) moment old.history) old.history h) (sym (idle.step t))
+      (throughout_here (IsLeft (Some v) moment old.history) old.history (left_at_rest (options_of v moment) old.history ready));
+}
+
+module _ (image : List ℕ) (v : VolumeOptions) (moment : ℕ) where
   -- the clock told a moment, and the image was asked to be attached
-  module _ (a b c : Outside) (asked_clock : Did (told_moment moment) a b) (same : b.attached ≡ a.attached) (idle : Idles b c)
-      (attach : Becomes b.attached c.attached (λ before now. now ≡ created image ∷ before)) where
+  module _ (a b c : Outside) (asked_clock : Did (told_moment moment) a b) (same : b.attached ≡ a.attached) (idle : Idles b c) (attach : Attaches (created image) b c) where
     pub begun : IsTrue c.tells → c.history ≡ after (told_moment moment) a.history
     begun t = idle.step t ∙ asked_clock.step (idle.before t)
 
-    became : Becomes a.attached c.attached (λ before now. now ≡ created image ∷ before)
+    became : Attaches (created image) a c
     became = subst (λ (before : Option (List Attachment)). Becomes before c.attached (λ before now. now ≡ created image ∷ before)) same attach
 
-    pub attached_first : IsUnderway image size moment a c
+    pub attached_first : IsUnderway image v moment a c
     attached_first = record {
       before = λ t. asked_clock.before (idle.before t);
       paths = became;
@@ -147,17 +160,17 @@ module _ (image : List ℕ) (size moment : ℕ) where
       taken = λ t. ap input (begun t) ∙ append-nil (input a.history);
       silent = λ t. ap output (begun t) ∙ append-nil (output a.history);
       any_moment = λ t ready.
-          let o = options_of size moment in
-          let P : History → Type 0 = LeavesByMaker (bytes_of a.history) size (tree_for o) in
+          let o = options_of v moment in
+          let P : History → Type 0 = LeavesByMaker (bytes_of a.history) v.size (tree_for o) in
           subst (λ (h : History). HoldsThroughout P a.history h) (sym (begun t))
           (from_clock (bytes_of a.history) o moment a.history (after (told_moment moment) a.history) (throughout_here P (after (told_moment moment) a.history) (left_at_rest o (after (told_moment moment) a.history) (ready_later moment a.history ready))));
       lengths = λ t. inl (ap (λ (h : History). lengths_asked h.deeds) (begun t));
     }
 
     -- and the maker was called
-    pub made_next : (o : MakeOptions) (d : Outside) → o ≡ options_of size moment → d.attached ≡ c.attached → MakesAtEachMoment o c d
+    pub made_next : (o : MakeOptions) (d : Outside) → o ≡ options_of v moment → d.attached ≡ c.attached → MakesAtEachMoment o c d
         → (IsTrue d.tells → AsksOneLength o.size c.history d.history) → (IsTrue d.tells → KeepsQuiet c.history d.history)
-        → IsUnderway image size moment a d
+        → IsUnderway image v moment a d
     made_next o d is there at_each lengths quiet = record {
       before = λ t. attached_first.before (at_each.before t);
       paths = subst (λ (now : Option (List Attachment)). Becomes a.attached now (λ before now. now ≡ created image ∷ before)) (sym there) became;
@@ -174,83 +187,82 @@ module _ (image : List ℕ) (size moment : ℕ) where
     }
 
     -- the volume, in terms of the bytes at the start
-    pub made_of_start : (o : MakeOptions) (g : Geometry) (d : Outside) → o ≡ options_of size moment → (IsTrue d.tells → IsTrue c.tells) → (IsTrue d.tells → HasMade o g (bytes_of c.history) d.history)
-        → IsTrue d.tells → HasMade (options_of size moment) g (bytes_of a.history) d.history
+    pub made_of_start : (o : MakeOptions) (g : Geometry) (d : Outside) → o ≡ options_of v moment → (IsTrue d.tells → IsTrue c.tells) → (IsTrue d.tells → HasMade o g (bytes_of c.history) d.history)
+        → IsTrue d.tells → HasVolume v g moment a.history d.history
     made_of_start o g d is before made t =
-        subst (λ (h : History). HasMade (options_of size moment) g (bytes_of h) d.history) (begun (before t)) (subst (λ (o : MakeOptions). HasMade o g (bytes_of c.history) d.history) is (made t))
+        subst (λ (h : History). HasMade (options_of v moment) g (bytes_of h) d.history) (begun (before t)) (subst (λ (o : MakeOptions). HasMade o g (bytes_of c.history) d.history) is (made t))
 
   -- the last line
-  module _ (g : Geometry) (status : ℕ) (a d e : Outside) (under : IsUnderway image size moment a d) (same : e.attached ≡ d.attached) where
-    spoke : (text : List ℕ) (owed : ℕ) → Says text owed status d e → IsTrue e.tells → Spoke d.history e.history
-    spoke text owed s t = elim (cases_eq status 4) [
-      | inl failed ↦ elim (s.cut failed t) [
-        | inl same ↦ inl same
-        | inr part ↦ inr (take part.0 text, part.2)
-      ]
-      | inr not_so ↦ inr (text, s.whole not_so t)
-    ]
+  module _ (g : Geometry) (status : ℕ) (a d e : Outside) (under : IsUnderway image v moment a d) (same : e.attached ≡ d.attached) (line : Line) (owed : ℕ) (s : Says line owed status d e) where
+    spoke : IsTrue e.tells → Spoke d.history e.history
+    spoke t = spoke_says status d e line owed s t
 
-    whole_text : (text : List ℕ) (owed : ℕ) → Says text owed status d e → status ≢ 4 → IsTrue e.tells → output e.history ≡ output a.history ++ text
-    whole_text text owed s not_so t = ap output (s.whole not_so t) ∙ ap (λ (l : List ℕ). l ++ text) (under.silent (s.before t))
+    whole_text : status ≢ 4 → IsTrue e.tells → Adds line a.history e.history
+    whole_text not_so t = ap output (s.whole not_so t) ∙ ap (λ (l : List ℕ). l ++ text_of line) (under.silent (s.before t))
 
-    part_of_text : (text : List ℕ) (owed : ℕ) → Says text owed status d e → status ≡ 4 → IsTrue e.tells → AddsPartOf text a.history e.history
-    part_of_text text owed s failed t = elim (s.cut failed t) [
+    part_of_text : status ≡ 4 → IsTrue e.tells → AddsPartOf line a.history e.history
+    part_of_text failed t = elim (s.cut failed t) [
       | inl same ↦ (0, omega arith, ap output same ∙ under.silent (s.before t) ∙ sym (append-nil _))
-      | inr part ↦ (part.0, part.1, ap output part.2 ∙ ap (λ (l : List ℕ). l ++ take part.0 text) (under.silent (s.before t)))
+      | inr part ↦ (part.0, part.1, ap output part.2 ∙ ap (λ (l : List ℕ). l ++ take part.0 (text_of line)) (under.silent (s.before t)))
     ]
 
-    ended : (text : List ℕ) (owed : ℕ) → Says text owed status d e → (status ≡ owed) ⊎ (status ≡ 4)
-    ended text owed s = elim (cases_eq status 4) [ inl failed ↦ inr failed | inr not_so ↦ inl (s.owes not_so) ]
+    ended : (status ≡ owed) ⊎ (status ≡ 4)
+    ended = elim (cases_eq status 4) [ inl failed ↦ inr failed | inr not_so ↦ inl (s.owes not_so) ]
 
-    paths_end : Becomes a.attached e.attached (λ before now. now ≡ created image ∷ before)
+    paths_end : Attaches (created image) a e
     paths_end = subst (λ (now : Option (List Attachment)). Becomes a.attached now (λ before now. now ≡ created image ∷ before)) (sym same) under.paths
 
-    clock_end : (text : List ℕ) (owed : ℕ) → Says text owed status d e → IsTrue e.tells → moments_told e.history.deeds ≡ moment ∷ moments_told a.history.deeds
-    clock_end text owed s t = spoke_moments d.history e.history (spoke text owed s t) ∙ under.clock (s.before t)
+    clock_end : IsTrue e.tells → moments_told e.history.deeds ≡ moment ∷ moments_told a.history.deeds
+    clock_end t = spoke_moments d.history e.history (spoke t) ∙ under.clock (s.before t)
 
-    taken_end : (text : List ℕ) (owed : ℕ) → Says text owed status d e → IsTrue e.tells → input e.history ≡ input a.history
-    taken_end text owed s t = spoke_input d.history e.history (spoke text owed s t) ∙ under.taken (s.before t)
+    taken_end : IsTrue e.tells → input e.history ≡ input a.history
+    taken_end t = spoke_input d.history e.history (spoke t) ∙ under.taken (s.before t)
 
-    lengths_end : (text : List ℕ) (owed : ℕ) → Says text owed status d e → IsTrue e.tells → AsksOneLength size a.history e.history
-    lengths_end text owed s t =
-        let l = spoke_lengths d.history e.history (spoke text owed s t) in
+    lengths_end : IsTrue e.tells → AsksOneLength v.size a.history e.history
+    lengths_end t =
+        let l = spoke_lengths d.history e.history (spoke t) in
         elim (under.lengths (s.before t)) [ inl none ↦ inl (l ∙ none) | inr one ↦ inr (l ∙ one) ]
 
-    left_end : (text : List ℕ) (owed : ℕ) → Says text owed status d e → IsTrue e.tells → IsReadyToMake a.history
-        → HoldsThroughout (LeavesByMaker (bytes_of a.history) size (tree_for (options_of size moment))) a.history e.history
-    left_end text owed s t ready = spoke_left (bytes_of a.history) (options_of size moment) a.history d.history e.history (spoke text owed s t) (under.any_moment (s.before t) ready)
+    -- what stands at each moment
+    pub safe_at_the_end : IsSafe (Some v) a e
+    safe_at_the_end = record {
+      before = λ t. under.before (s.before t);
+      step = λ other t ready told.
+          subst (λ (m : ℕ). HoldsThroughout (IsLeft (Some v) m a.history) a.history e.history) (sym (same_moment moment other (moments_told a.history.deeds) (moments_told e.history.deeds) (clock_end t) told))
+          (spoke_left (bytes_of a.history) (options_of v moment) a.history d.history e.history (spoke t) (under.any_moment (s.before t) ready));
+    }
 
+  module _ (g : Geometry) (status : ℕ) (a d e : Outside) (under : IsUnderway image v moment a d) (same : e.attached ≡ d.attached) where
     -- it says that a device call failed
-    pub says_fault : Says device_fault 3 status d e → Rose a.dev_faults e.dev_faults → MakesAt image size g moment status a e
+    pub says_fault : Says DeviceFault 3 status d e → Rose a.dev_faults e.dev_faults → MakesAt image v g moment status a e
     says_fault s rose = record {
       before = λ t. under.before (s.before t);
-      ends = inr (ended device_fault 3 s);
-      paths = paths_end;
-      clock = clock_end device_fault 3 s;
-      taken = taken_end device_fault 3 s;
+      ends = inr (ended g status a d e under same DeviceFault 3 s);
+      paths = paths_end g status a d e under same DeviceFault 3 s;
+      clock = clock_end g status a d e under same DeviceFault 3 s;
+      taken = taken_end g status a d e under same DeviceFault 3 s;
       made = λ zero t. absurd (omega (arith, s.owes (omega arith)));
-      fault = λ three t. whole_text device_fault 3 s (omega arith) t;
-      cut = λ four t. inr (rose, part_of_text device_fault 3 s four t);
+      fault = λ three t. whole_text g status a d e under same DeviceFault 3 s (omega arith) t;
+      cut = λ four t. inr (rose, part_of_text g status a d e under same DeviceFault 3 s four t);
       volume = λ zero t. absurd (omega (arith, s.owes (omega arith)));
-      any_moment = left_end device_fault 3 s;
-      lengths = lengths_end device_fault 3 s;
+      lengths = lengths_end g status a d e under same DeviceFault 3 s;
     }
 
     -- it says that the volume was made
-    pub says_made : Says (made_line (made_of g)) 0 status d e → (IsTrue d.tells → HasMade (options_of size moment) g (bytes_of a.history) d.history) → MakesAt image size g moment status a e
+    pub says_made : Says (Made (made_of g)) 0 status d e → (IsTrue d.tells → HasVolume v g moment a.history d.history) → MakesAt image v g moment status a e
     says_made s made =
-        let stays : IsTrue e.tells → HasMade (options_of size moment) g (bytes_of a.history) e.history = λ t.
-        spoke_made (options_of size moment) g (bytes_of a.history) d.history e.history (spoke (made_line (made_of g)) 0 s t) (made (s.before t)) in
+        let line = Made (made_of g) in
+        let stays : IsTrue e.tells → HasVolume v g moment a.history e.history = λ t.
+        spoke_made (options_of v moment) g (bytes_of a.history) d.history e.history (spoke g status a d e under same line 0 s t) (made (s.before t)) in
         record {
           before = λ t. under.before (s.before t);
-          ends = elim (ended (made_line (made_of g)) 0 s) [ inl zero ↦ inl zero | inr four ↦ inr (inr four) ];
-          paths = paths_end;
-          clock = clock_end (made_line (made_of g)) 0 s;
-          taken = taken_end (made_line (made_of g)) 0 s;
-          made = λ zero t. whole_text (made_line (made_of g)) 0 s (omega arith) t;
+          ends = elim (ended g status a d e under same line 0 s) [ inl zero ↦ inl zero | inr four ↦ inr (inr four) ];
+          paths = paths_end g status a d e under same line 0 s;
+          clock = clock_end g status a d e under same line 0 s;
+          taken = taken_end g status a d e under same line 0 s;
+          made = λ zero t. whole_text g status a d e under same line 0 s (omega arith) t;
           fault = λ three t. absurd (omega (arith, s.owes (omega arith)));
-          cut = λ four t. inl (stays t, part_of_text (made_line (made_of g)) 0 s four t);
+          cut = λ four t. inl (stays t, part_of_text g status a d e under same line 0 s four t);
           volume = λ zero t. stays t;
-          any_moment = left_end (made_line (made_of g)) 0 s;
-          lengths = lengths_end (made_line (made_of g)) 0 s;
+          lengths = lengths_end g status a d e under same line 0 s;
         }

@@ -9,5 +9,7 @@ pub use Rattle.qx_make.specs.Make
 pub use Rattle.qx_make.specs.Cut
 pub mod Sizes
 pub mod Lines
-pub mod Run
+pub mod Words
+pub mod Says
 pub mod Volumes
+pub mod Run

@@ -1,4 +1,4 @@
--- Sizes as words, and the volume that a size alone asks for.
+-- Sizes as words, and the numbers of a volume that is asked for.
 use Rattle.std.specs.Prelude.{ℕ, ◌*◌, ◌-◌, ◌/◌, ◌^◌, min, max, Bool, false, ◌&&◌, ◌==◌, List, [], ◌∷◌, length, take, codes, nat_lt, Option, Some, None, Result, if◌then◌else◌}
 use Rattle.std.specs.List.{ends_with}
 use Rattle.std.specs.Str.{all_ascii_digits}
@@ -8,6 +8,7 @@ use Rattle.qx_geom.specs.declared.geometry.GeomFault.{GeomFault}
 use Rattle.qx_geom.specs.declared.geometry.Geometry.{Geometry}
 use Rattle.qx_geom.specs.Layout.{geometry_of}
 use Rattle.qx_make.specs.declared.options.MakeOptions.{MakeOptions}
+use Rattle.qx_top.specs.declared.sizes.VolumeOptions.{VolumeOptions}
 
 -- the word is decimal digits, one at least
 abbrev pub is_number : List ℕ → Bool
@@ -35,16 +36,27 @@ size_of word =
     else if ends_in word (codes "G") then units_of (2 ^ 30) (but_last word)
     else units_of 1 word
 
--- ---- a volume of so many bytes
+-- ---- the numbers of a volume
 
 -- its inodes, where none are asked for: one for each whole 4096 bytes, at least 16 and at most 2^20
 abbrev pub inodes_of : ℕ → ℕ
 inodes_of size = min (max (size / 4096) 16) 1048576
 
--- its numbers with blocks of 512 bytes, or why they are those of none
-abbrev pub volume_of : ℕ → Result Geometry GeomFault
-volume_of size = geometry_of size 512 (inodes_of size)
+-- what a size alone asks for: blocks of 512 bytes, and numbers in little order
+abbrev pub options_by_size : ℕ → VolumeOptions
+options_by_size size = record { size = size; blocksize = 512; inodes = inodes_of size; order = Little }
+
+-- the volume's numbers, or why they are those of none
+abbrev pub volume_of : VolumeOptions → Result Geometry GeomFault
+volume_of options = geometry_of options.size options.blocksize options.inodes
 
 -- what the maker is asked for at a moment
-abbrev pub options_of : ℕ → ℕ → MakeOptions
-options_of size moment = record { size = size; blocksize = 512; inodes = inodes_of size; order = Little; moment = moment }
+abbrev pub options_of : VolumeOptions → ℕ → MakeOptions
+options_of options moment =
+    record {
+      size = options.size;
+      blocksize = options.blocksize;
+      inodes = options.inodes;
+      order = options.order;
+      moment = moment;
+    }

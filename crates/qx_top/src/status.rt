@@ -1,6 +1,6 @@
 //! How a run ends.
 ghost use Rattle.std.specs.Prelude.{◌≡◌};
-ghost use Rattle.qx_top.specs.Run.{code_of};
+ghost use Rattle.qx_top.specs.Says.{code_of};
 
 /// How a run ends, with the exit status that says so.
 #[derive(Clone, Copy, Debug, PartialEq, Eq)]

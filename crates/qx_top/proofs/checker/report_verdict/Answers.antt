@@ -1,11 +1,11 @@
-use Rattle.std.proofs.Common.{◌≡◌, ℕ, List, IsTrue, Err, subst, ◌∙◌, rules}
+use Rattle.std.proofs.Common.{◌≡◌, IsTrue, Err, subst, ◌∙◌, rules}
 use Rattle.qx_check.specs.Verdicts.{SaysVerdict}
 use Rattle.qx_check.specs.declared.verdict.CheckFault.TheVariants as faults
 use Rattle.qx_outside.specs.Causes.{Rose}
 use Rattle.qx_outside.specs.Trail.{History, bytes_of}
-use Rattle.qx_top.specs.Lines.{report_of_answer}
-use Rattle.qx_top.specs.Run.{Says, code_of}
-use Rattle.qx_top.specs.declared.status.Status.{Status}
+use Rattle.qx_top.specs.declared.reports.Report.{Report}
+use Rattle.qx_top.specs.Run.{ReportsVerdict}
+use Rattle.qx_top.specs.Says.{Says, code_of}
 use Rattle.qx_top.proofs.VerdictRuns.{says_answer}
 use Rattle.qx_top.proofs.checker.report_verdict.Given.{Over}
 use Rattle.qx_top.proofs.checker.report_verdict.Goals as goal
@@ -14,14 +14,15 @@ use Rattle.qx_top.proofs.checker.report_verdict.Goals as goal
 failed : (g : Over) (c : goal.After-say-2 g) → c.check.result ≡ Err faults.Device → Rose (g.H.Dev.outside c.args.host.now).dev_faults (g.H.Dev.outside c.say-2.new.host).dev_faults
 failed g c is = let rose = c.check.ensures.device is in search rules
 
-pub returns-clause-report : goal.returns-clause-report
-returns-clause-report g c =
+reported : (g : Over) (c : goal.After-say-2 g) → ReportsVerdict (code_of c.say-2.result) (g.H.Dev.outside c.args.host.now) (g.H.Dev.outside c.say-2.new.host)
+reported g c =
     let answer = c.check.result in
     let same : IsTrue (g.H.Dev.outside c.check.new.host).tells → (g.H.Dev.outside c.check.new.host).history ≡ (g.H.Dev.outside c.args.host.now).history = λ t. c.check.ensures.reads.same t ∙ c.attach.ensures.step.step (c.check.ensures.reads.before t) in
-    let text = c.as_str.ensures.value ∙ c.report_on_answer-report.ensures.line in
-    let said = subst (λ (text : List ℕ). Says text (code_of c.report_on_answer-report.result.status) (code_of c.say-2.result) (g.H.Dev.outside c.check.new.host) (g.H.Dev.outside c.say-2.new.host)) text c.say-2.ensures.says in
-    let owed = subst (λ (owed : Status). Says (report_of_answer answer).text (code_of owed) (code_of c.say-2.result) (g.H.Dev.outside c.check.new.host) (g.H.Dev.outside c.say-2.new.host)) c.report_on_answer-report.ensures.status said in
+    let said = subst (λ (r : Report). Says r.line (code_of r.status) (code_of c.say-2.result) (g.H.Dev.outside c.check.new.host) (g.H.Dev.outside c.say-2.new.host)) c.report_on_answer-report.ensures c.say-2.ensures.says in
     says_answer (code_of c.say-2.result) (g.H.Dev.outside c.args.host.now) (g.H.Dev.outside c.check.new.host) (g.H.Dev.outside c.say-2.new.host)
     (λ t. c.attach.ensures.step.before (c.check.ensures.reads.before t)) same answer
     (λ t. subst (λ (h : History). SaysVerdict (bytes_of h) answer) (c.attach.ensures.step.step (c.check.ensures.reads.before (c.say-2.ensures.says.before t))) (c.check.ensures.says (c.say-2.ensures.says.before t)))
-    (failed g c) owed
+    (failed g c) said
+
+pub returns-clause-does : goal.returns-clause-does
+returns-clause-does g c = (reported g c, search rules)

@@ -1,7 +1,6 @@
-use Rattle.std.proofs.Common.{◌≡◌, length, IsTrue, ap, ◌∙◌}
+use Rattle.std.proofs.Common.{◌≡◌, length, IsTrue, ◌∙◌}
 use Rattle.qx_outside.specs.Trail.{bytes_of}
 use Rattle.qx_outside.proofs.ToldLengths.{answered_is}
-use Rattle.qx_top.specs.Lines.{Report, report_read, supers_report}
 use Rattle.qx_top.proofs.Readings.{report_read-is}
 use Rattle.qx_top.proofs.supers.report_on_device.Given.{Over}
 use Rattle.qx_top.proofs.supers.report_on_device.Goals as goal
@@ -11,11 +10,7 @@ long : (g : Over) (c : goal.After-report_on_buffers g) → IsTrue (g.D.Dev.outsi
 long g c told = answered_is _ _ _ _ c.areas.ensures.extent (g.met.D.Dev.extent_is c.areas.new.host told) c.in_ok-len.ensures.value
 
 -- where the device tells, what was read gives its report
-reported : (g : Over) (c : goal.After-report_on_buffers g) → IsTrue (g.D.Dev.outside c.areas.new.host).tells → report_read c.areas.new.first c.areas.new.second c.in_ok-len.len ≡ supers_report (bytes_of (g.D.Dev.outside c.areas.new.host).history)
-reported g c told = report_read-is _ _ _ _ (long g c told) (record { first_bytes = c.in_ok-pick.ensures.first told; second_bytes = c.in_ok-pick.ensures.second told })
-
-pub returns-clause-line : goal.returns-clause-line
-returns-clause-line g c = λ told. c.report_on_buffers.ensures.line ∙ ap (λ (r : Report). r.text) (reported g c told)
-
-pub returns-clause-status : goal.returns-clause-status
-returns-clause-status g c = λ told. c.report_on_buffers.ensures.status ∙ ap (λ (r : Report). r.status) (reported g c told)
+pub returns-clause-report : goal.returns-clause-report
+returns-clause-report g c = λ told.
+    c.report_on_buffers.ensures.report
+    ∙ report_read-is _ _ _ _ (long g c told) (record { first_bytes = c.in_ok-pick.ensures.first told; second_bytes = c.in_ok-pick.ensures.second told })
