@@ -5,6 +5,7 @@ use Rattle.std.proofs.lemmas.Bool.{or_cases, cases_eq, cases_lt}
 use Rattle.qx_geom.specs.declared.area.Which.{Which}
 use Rattle.qx_geom.specs.declared.area.Which.TheVariants.{Second}
 use Rattle.qx_geom.specs.declared.geometry.Geometry.{Geometry}
+use Rattle.qx_geom.specs.declared.system.SystemTree.{SystemTree}
 use Rattle.qx_geom.specs.declared.tree.PointerPlace.{PointerPlace}
 use Rattle.qx_geom.specs.Layout.{IsGeometry, IsPointerBlock, IsTreeBlock, area_place, below_level, first_block, is_block_size, level_count, levels_for, pointer_place, system_pointer, system_word_of, word_at, tree_base, tree_blocks, tree_leaves}
 use Rattle.qx_geom.specs.Pointer.{per_block}
@@ -43,12 +44,12 @@ level_of b n zero x less = absurd (omega arith)
 level_of b n (suc k) x less =
     ⊎_elim (λ lower. let found = level_of b n k x lower in (found.0, omega (arith, found.1), found.2, found.3)) (λ here. (k, omega arith, here, less)) (cases_lt x (below_level b n k))
 
-module _ (g : Geometry) (which : Which) (bitmap : Bool) (e : IsGeometry g) where
+module _ (g : Geometry) (which : Which) (tree : SystemTree) (e : IsGeometry g) where
   abbrev n : ℕ
-  n = tree_leaves g bitmap
+  n = tree_leaves g tree
 
   abbrev base : ℕ
-  base = tree_base g which bitmap
+  base = tree_base g which tree
 
   sized : is_block_size g.blocksize ≡ true
   sized = (IsGeometry-keeps g e).block_size
@@ -58,18 +59,18 @@ module _ (g : Geometry) (which : Which) (bitmap : Bool) (e : IsGeometry g) where
   below_level-above level above = omega (arith, below_level-more g.blocksize n sized 1 level above, level_count-leaves g.blocksize n sized)
 
   -- a block above the leaves is a pointer block
-  pub IsPointerBlock-above : (level index block : ℕ) → 1 ≤ level → IsTreeBlock g which bitmap level index block → IsPointerBlock g which bitmap block
+  pub IsPointerBlock-above : (level index block : ℕ) → 1 ≤ level → IsTreeBlock g which tree level index block → IsPointerBlock g which tree block
   IsPointerBlock-above level index block above t = record {
     from = omega (arith, t.place, below_level-above level above);
-    to = omega (arith, t.place, t.index_there, level-within g.blocksize n sized level t.level_there, tree_blocks-is g.blocksize n sized, tree_pointers-is g bitmap e);
+    to = omega (arith, t.place, t.index_there, level-within g.blocksize n sized level t.level_there, tree_blocks-is g.blocksize n sized, tree_pointers-is g tree e);
   }
 
   -- and each pointer block is one of those
-  pub IsTreeBlock-pointer : (block : ℕ) → IsPointerBlock g which bitmap block → (level : ℕ) × (index : ℕ) × (1 ≤ level) × IsTreeBlock g which bitmap level index block
+  pub IsTreeBlock-pointer : (block : ℕ) → IsPointerBlock g which tree block → (level : ℕ) × (index : ℕ) × (1 ≤ level) × IsTreeBlock g which tree level index block
   unfolding tree_blocks
   IsTreeBlock-pointer block p =
       let b = g.blocksize in
-      let all = tree_blocks-is b n sized in let pointers = tree_pointers-is g bitmap e in
+      let all = tree_blocks-is b n sized in let pointers = tree_pointers-is g tree e in
       let found = level_of b n (suc (levels_for b n)) (block - base) (omega (arith, p.from, p.to)) in
       let above : 1 ≤ found.0 = ⊎_elim (λ low. let none : level_count b n found.0 ≡ level_count b n 0 = ap (λ (k : ℕ). level_count b n k) low in
       let first : below_level b n found.0 ≡ 0 = ap (λ (k : ℕ). below_level b n k) low in
@@ -77,14 +78,14 @@ module _ (g : Geometry) (which : Which) (bitmap : Bool) (e : IsGeometry g) where
       (found.0, block - base - below_level b n found.0, above, record { level_there = omega (arith, found.1); index_there = omega (arith, found.2, found.3); place = omega (arith, found.2, p.from) })
 
   -- a block of a tree lies in the half
-  pub tree_block-below : (level index block : ℕ) → IsTreeBlock g which bitmap level index block → block < first_block g which + g.half
-  tree_block-below level index block t = omega (arith, t.place, t.index_there, level-within g.blocksize n sized level t.level_there, tree-within g which bitmap e)
+  pub tree_block-below : (level index block : ℕ) → IsTreeBlock g which tree level index block → block < first_block g which + g.half
+  tree_block-below level index block t = omega (arith, t.place, t.index_there, level-within g.blocksize n sized level t.level_there, tree-within g which tree e)
 
   -- what a pointer block's words point to
-  pub system_word_of-is : (level index block word : ℕ) → 1 ≤ level → IsTreeBlock g which bitmap level index block → system_word_of g which bitmap block word ≡ system_pointer g.blocksize base n (level - 1) (index * per_block g.blocksize + word)
+  pub system_word_of-is : (level index block word : ℕ) → 1 ≤ level → IsTreeBlock g which tree level index block → system_word_of g which tree block word ≡ system_pointer g.blocksize base n (level - 1) (index * per_block g.blocksize + word)
   unfolding system_word_of
   system_word_of-is level index block word above t =
-      let few = levels_for-two g.blocksize n sized (tree_leaves-le g bitmap e) in
+      let few = levels_for-two g.blocksize n sized (tree_leaves-le g tree e) in
       let found : pointer_place g.blocksize n 1 (block - (base + n)) 5 ≡ record { level = level; index = index }
       = pointer_place-is g.blocksize n sized level index (block - (base + n)) above (omega (arith, t.level_there)) t.index_there (omega (arith, t.place, below_level-above level above)) in
       ap (λ (at : PointerPlace). word_at g.blocksize base n at word) found

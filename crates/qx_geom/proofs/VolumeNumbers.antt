@@ -5,6 +5,8 @@ use Rattle.std.proofs.lemmas.Bool.{or_parts}
 use Rattle.qx_geom.specs.declared.area.Which.{Which}
 use Rattle.qx_geom.specs.declared.area.Which.TheVariants.{First, Second}
 use Rattle.qx_geom.specs.declared.geometry.Geometry.{Geometry}
+use Rattle.qx_geom.specs.declared.system.SystemTree.{SystemTree}
+use Rattle.qx_geom.specs.declared.system.SystemTree.TheVariants as trees
 use Rattle.qx_geom.specs.declared.geometry.GeomFault.{GeomFault}
 use Rattle.qx_geom.specs.declared.geometry.GeomFault.TheVariants.{BlockSize, TooShort, TooLarge, Inodes}
 use Rattle.qx_geom.specs.Layout.{IsGeometry, levels_for, tree_blocks, pointer_blocks, is_block_size, whole_length, blocks_in, bitmap_leaves_of, inode_leaves_of, half_of, numbers_of, geometry_of, first_block, tree_base, tree_leaves, tree_pointers}
@@ -150,9 +152,9 @@ IsGeometry-keeps g e =
 -- ---- the system trees
 
 -- a tree's blocks are its leaves and its pointer blocks
-pub tree_pointers-is : (g : Geometry) (bitmap : Bool) → IsGeometry g → tree_pointers g bitmap ≡ pointer_blocks g.blocksize (tree_leaves g bitmap)
-tree_pointers-is g true e = (IsGeometry-keeps g e).bitmap_pointers
-tree_pointers-is g false e = (IsGeometry-keeps g e).inode_pointers
+pub tree_pointers-is : (g : Geometry) (tree : SystemTree) → IsGeometry g → tree_pointers g tree ≡ pointer_blocks g.blocksize (tree_leaves g tree)
+tree_pointers-is g trees.Bitmap e = (IsGeometry-keeps g e).bitmap_pointers
+tree_pointers-is g trees.Inodes e = (IsGeometry-keeps g e).inode_pointers
 
 -- an area's half begins at 0 or behind the other
 pub first_block-le : (g : Geometry) (which : Which) → first_block g which ≤ g.half
@@ -160,15 +162,20 @@ first_block-le g First = omega arith
 first_block-le g Second = omega arith
 
 -- a half's trees lie in the half
-pub tree-within : (g : Geometry) (which : Which) (bitmap : Bool) → IsGeometry g → tree_base g which bitmap + tree_blocks g.blocksize (tree_leaves g bitmap) ≤ first_block g which + g.half
-tree-within g which true e = let v = IsGeometry-keeps g e in omega (arith, v.bitmap_blocks, v.parts)
-tree-within g which false e = let v = IsGeometry-keeps g e in omega (arith, v.inode_blocks, v.parts)
+pub tree-within : (g : Geometry) (which : Which) (tree : SystemTree) → IsGeometry g → tree_base g which tree + tree_blocks g.blocksize (tree_leaves g tree) ≤ first_block g which + g.half
+tree-within g which trees.Bitmap e = let v = IsGeometry-keeps g e in omega (arith, v.bitmap_blocks, v.parts)
+tree-within g which trees.Inodes e = let v = IsGeometry-keeps g e in omega (arith, v.inode_blocks, v.parts)
 
 -- so they lie among the volume's blocks
-pub tree-below : (g : Geometry) (which : Which) (bitmap : Bool) → IsGeometry g → tree_base g which bitmap + tree_blocks g.blocksize (tree_leaves g bitmap) ≤ 2 ^ 28
-tree-below g which bitmap e = let v = IsGeometry-keeps g e in omega (arith, tree-within g which bitmap e, first_block-le g which, v.room, v.blocks_to)
+pub tree-below : (g : Geometry) (which : Which) (tree : SystemTree) → IsGeometry g → tree_base g which tree + tree_blocks g.blocksize (tree_leaves g tree) ≤ 2 ^ 28
+tree-below g which tree e = let v = IsGeometry-keeps g e in omega (arith, tree-within g which tree e, first_block-le g which, v.room, v.blocks_to)
 
 -- a tree has few leaves
-pub tree_leaves-le : (g : Geometry) (bitmap : Bool) → IsGeometry g → tree_leaves g bitmap ≤ 2 ^ 18
-tree_leaves-le g true e = (IsGeometry-keeps g e).bitmap_leaves_to
-tree_leaves-le g false e = (IsGeometry-keeps g e).inode_leaves_to
+pub tree_leaves-le : (g : Geometry) (tree : SystemTree) → IsGeometry g → tree_leaves g tree ≤ 2 ^ 18
+tree_leaves-le g trees.Bitmap e = (IsGeometry-keeps g e).bitmap_leaves_to
+tree_leaves-le g trees.Inodes e = (IsGeometry-keeps g e).inode_leaves_to
+
+-- a tree's pointer blocks lie among the volume's blocks
+pub pointers-counted : (g : Geometry) (which : Which) (tree : SystemTree) → IsGeometry g → tree_base g which tree + tree_leaves g tree + tree_pointers g tree ≤ g.num_blocks
+pointers-counted g which trees.Bitmap e = let v = IsGeometry-keeps g e in omega (arith, first_block-le g which, v.room, v.parts)
+pointers-counted g which trees.Inodes e = let v = IsGeometry-keeps g e in omega (arith, first_block-le g which, v.room, v.parts)

@@ -4,6 +4,8 @@ use Rattle.std.specs.List.{range_with_len}
 use Rattle.qx_geom.specs.declared.area.Which.{Which}
 use Rattle.qx_geom.specs.declared.area.Which.TheVariants.{First, Second}
 use Rattle.qx_geom.specs.declared.root.Root.{Root}
+use Rattle.qx_geom.specs.declared.system.SystemTree.{SystemTree}
+use Rattle.qx_geom.specs.declared.system.SystemTree.TheVariants as trees
 use Rattle.qx_geom.specs.declared.tree.PointerPlace.{PointerPlace}
 use Rattle.qx_geom.specs.Pointer.{absent, ceil_div, per_block, reach}
 use Rattle.qx_geom.specs.declared.geometry.Geometry.{Geometry}
@@ -99,13 +101,17 @@ first_block g Second = g.half
 abbrev pub user_blocks : Geometry → ℕ
 user_blocks g = g.num_blocks - 2 * g.half
 
+-- the byte at which the first superblock area stands, behind the boot area
+abbrev pub first_place : ℕ
+first_place = 0x2000
+
 -- the byte at which block 0 stands
 abbrev pub blocks_begin : ℕ
 blocks_begin = 0x3000
 
 -- the byte at which a superblock area stands
 abbrev pub area_place : Geometry → Which → ℕ
-area_place g First = 0x2000
+area_place g First = first_place
 area_place g Second = blocks_begin + g.num_blocks * g.blocksize
 
 -- the byte at which a block stands
@@ -125,29 +131,34 @@ system_tree blocksize base n size = record {
   levels = levels_for blocksize n;
 }
 
--- where the tree of a half begins: that of its bitmap, or that of its inodes
-abbrev pub tree_base : Geometry → Which → Bool → ℕ
-tree_base g which true = first_block g which
-tree_base g which false = first_block g which + g.bitmap_leaves + g.bitmap_pointers
+-- the tree that a flag names
+abbrev pub tree_of : Bool → SystemTree
+tree_of true = trees.Bitmap
+tree_of false = trees.Inodes
+
+-- the block at which a tree of a half begins
+abbrev pub tree_base : Geometry → Which → SystemTree → ℕ
+tree_base g which trees.Bitmap = first_block g which
+tree_base g which trees.Inodes = first_block g which + g.bitmap_leaves + g.bitmap_pointers
 
 -- how many leaves it has
-abbrev pub tree_leaves : Geometry → Bool → ℕ
-tree_leaves g true = g.bitmap_leaves
-tree_leaves g false = g.inode_leaves
+abbrev pub tree_leaves : Geometry → SystemTree → ℕ
+tree_leaves g trees.Bitmap = g.bitmap_leaves
+tree_leaves g trees.Inodes = g.inode_leaves
 
 -- how many pointer blocks it has
-abbrev pub tree_pointers : Geometry → Bool → ℕ
-tree_pointers g true = g.bitmap_pointers
-tree_pointers g false = g.inode_pointers
+abbrev pub tree_pointers : Geometry → SystemTree → ℕ
+tree_pointers g trees.Bitmap = g.bitmap_pointers
+tree_pointers g trees.Inodes = g.inode_pointers
 
 -- its size in bytes
-abbrev pub tree_size : Geometry → Bool → ℕ
-tree_size g true = ceil_div g.num_blocks 8
-tree_size g false = g.num_inodes * 128
+abbrev pub tree_size : Geometry → SystemTree → ℕ
+tree_size g trees.Bitmap = ceil_div g.num_blocks 8
+tree_size g trees.Inodes = g.num_inodes * 128
 
--- the Bitmap or the Inode root node of an area
-unfoldable pub system_root_of : Geometry → Which → Bool → Root
-system_root_of g which bitmap = system_tree g.blocksize (tree_base g which bitmap) (tree_leaves g bitmap) (tree_size g bitmap)
+-- the root node of a system tree of an area
+unfoldable pub system_root_of : Geometry → Which → SystemTree → Root
+system_root_of g which tree = system_tree g.blocksize (tree_base g which tree) (tree_leaves g tree) (tree_size g tree)
 
 -- the level and the index of the pointer block before which j blocks of this level and of those above it stand, among the next few levels
 unfoldable pub pointer_place : ℕ → ℕ → ℕ → ℕ → ℕ → PointerPlace
@@ -161,22 +172,22 @@ abbrev pub word_at : ℕ → ℕ → ℕ → PointerPlace → ℕ → ℕ
 word_at blocksize base n at w = system_pointer blocksize base n (at.level - 1) (at.index * per_block blocksize + w)
 
 -- word w of a pointer block of an area's tree
-unfoldable pub system_word_of : Geometry → Which → Bool → ℕ → ℕ → ℕ
-system_word_of g which bitmap block w =
-    let base = tree_base g which bitmap in
-    let n = tree_leaves g bitmap in
+unfoldable pub system_word_of : Geometry → Which → SystemTree → ℕ → ℕ → ℕ
+system_word_of g which tree block w =
+    let base = tree_base g which tree in
+    let n = tree_leaves g tree in
     word_at g.blocksize base n (pointer_place g.blocksize n 1 (block - (base + n)) 5) w
 
 -- the block is one of the tree's pointer blocks
-pub record IsPointerBlock (g : Geometry) (which : Which) (bitmap : Bool) (block : ℕ) : Type 0 where
-  pub from : tree_base g which bitmap + tree_leaves g bitmap ≤ block
-  pub to : block < tree_base g which bitmap + tree_leaves g bitmap + tree_pointers g bitmap
+pub record IsPointerBlock (g : Geometry) (which : Which) (tree : SystemTree) (block : ℕ) : Type 0 where
+  pub from : tree_base g which tree + tree_leaves g tree ≤ block
+  pub to : block < tree_base g which tree + tree_leaves g tree + tree_pointers g tree
 
 -- the block is the one of this index on this level of the tree
-pub record IsTreeBlock (g : Geometry) (which : Which) (bitmap : Bool) (level index block : ℕ) : Type 0 where
-  pub level_there : level ≤ levels_for g.blocksize (tree_leaves g bitmap)
-  pub index_there : index < level_count g.blocksize (tree_leaves g bitmap) level
-  pub place : block ≡ tree_base g which bitmap + below_level g.blocksize (tree_leaves g bitmap) level + index
+pub record IsTreeBlock (g : Geometry) (which : Which) (tree : SystemTree) (level index block : ℕ) : Type 0 where
+  pub level_there : level ≤ levels_for g.blocksize (tree_leaves g tree)
+  pub index_there : index < level_count g.blocksize (tree_leaves g tree) level
+  pub place : block ≡ tree_base g which tree + below_level g.blocksize (tree_leaves g tree) level + index
 
 -- the numbers are a volume's
 abbrev pub IsGeometry : Geometry → Type 0

@@ -2,9 +2,16 @@
 ghost use Rattle.std.specs.Prelude.{◌≡◌};
 ghost use Rattle.qx_geom.specs.Layout.{whole_length};
 
-use crate::tree::SystemTree;
-use crate::{ABSENT, Root, Which};
+use crate::tree::LaidTree;
+use crate::{ABSENT, Root, SystemTree, Which};
+use std::ops::Range;
 use thiserror::Error;
+
+/// The byte at which the first superblock area stands, behind the boot area (`qnx6_fs.h`).
+pub const FIRST_PLACE: u64 = 0x2000;
+
+/// The byte at which block 0 stands, behind the first area (`qnx6_fs.h`).
+pub const BLOCKS_BEGIN: u64 = 0x3000;
 
 /// The bounds on the inodes and the blocks of a volume (this project's own).
 const MIN_INODES: u32 = 16;
@@ -54,8 +61,8 @@ pub struct Geometry {
 }
 
 impl Geometry {
-    ghost use Rattle.std.specs.Prelude.{◌≡◌, ◌<◌, ◌≤◌, ◌^◌, IfOk, IsTrue};
-    ghost use Rattle.qx_geom.specs.Layout.{IsGeometry, IsPointerBlock, area_place, block_place, blocks_in, geometry_of, is_block_size, numbers_of, system_root_of, system_word_of, tree_base, tree_leaves, tree_size, user_blocks};
+    ghost use Rattle.std.specs.Prelude.{◌≡◌, ◌+◌, ◌<◌, ◌≤◌, ◌^◌, IfOk, IsTrue};
+    ghost use Rattle.qx_geom.specs.Layout.{IsGeometry, IsPointerBlock, area_place, block_place, blocks_in, first_block, geometry_of, is_block_size, numbers_of, system_root_of, system_word_of, tree_base, tree_leaves, tree_of, tree_pointers, tree_size, user_blocks};
     ghost use Rattle.qx_geom.specs.Pointer.{per_block};
 
     /// The numbers of a volume on a device of `len` bytes. The tests come in the order block size, inodes, too short, too large.
@@ -92,8 +99,8 @@ impl Geometry {
         ensures { result ≡ area_place self.now which }
     {
         match which {
-            Which::First => 0x2000,
-            Which::Second => 0x3000 + u64::from(self.num_blocks) * u64::from(self.blocksize),
+            Which::First => FIRST_PLACE,
+            Which::Second => BLOCKS_BEGIN + u64::from(self.num_blocks) * u64::from(self.blocksize),
         }
     }
 
@@ -103,7 +110,7 @@ impl Geometry {
         requires block { b < self.now.num_blocks }
         ensures { result ≡ block_place self.now b }
     {
-        0x3000 + u64::from(b) * u64::from(self.blocksize)
+        BLOCKS_BEGIN + u64::from(b) * u64::from(self.blocksize)
     }
 
     /// How many blocks are no half's.
@@ -114,20 +121,51 @@ impl Geometry {
         self.num_blocks - 2 * self.half
     }
 
+    /// The first block of an area's half.
+    pub fn first_block(&self, which: Which) -> u32
+        requires { IsGeometry self.now }
+        ensures first { result ≡ first_block self.now which }
+        ensures room { result + self.now.half ≤ self.now.num_blocks }
+    {
+        match which {
+            Which::First => 0,
+            Which::Second => self.half,
+        }
+    }
+
+    /// The pointer blocks of a tree of an area's half.
+    pub fn pointer_blocks(&self, which: Which, tree: SystemTree) -> Range<u32>
+        requires { IsGeometry self.now }
+        ensures first { result.start ≡ tree_base self.now which tree + tree_leaves self.now tree }
+        ensures behind { result.end ≡ result.start + tree_pointers self.now tree }
+        ensures room { result.end ≤ self.now.num_blocks }
+    {
+        let first = self.base(which, tree) + self.laid(tree).leaves;
+        first..first + self.pointers(tree)
+    }
+
     /// The Bitmap root node of an area, or its Inode root node.
     pub fn system_root(&self, which: Which, bitmap: bool) -> Root
         requires { IsGeometry self.now }
-        ensures { result ≡ system_root_of self.now which bitmap }
+        ensures { result ≡ system_root_of self.now which (tree_of bitmap) }
     {
-        let tree = self.tree(bitmap);
-        let base = self.base(which, bitmap);
-        let levels = tree.levels();
+        self.tree_root(which, SystemTree::of(bitmap))
+    }
+
+    /// The root node of a tree of an area.
+    pub fn tree_root(&self, which: Which, tree: SystemTree) -> Root
+        requires { IsGeometry self.now }
+        ensures { result ≡ system_root_of self.now which tree }
+    {
+        let laid = self.laid(tree);
+        let base = self.base(which, tree);
+        let levels = laid.levels();
         let mut pointers = [ABSENT; 16];
         for (index, pointer) in pointers.iter_mut().enumerate() {
-            *pointer = tree.pointer(base, levels, index as u32);
+            *pointer = laid.pointer(base, levels, index as u32);
         }
         Root {
-            size: self.size(bitmap),
+            size: self.size(tree),
             pointers,
             levels,
         }
@@ -136,14 +174,24 @@ impl Geometry {
     /// A word of a pointer block of one of the four system trees.
     pub fn system_word(&self, which: Which, bitmap: bool, block: u32, word: u32) -> u32
         requires geometry { IsGeometry self.now }
-        requires block { IsPointerBlock self.now which bitmap block }
+        requires block { IsPointerBlock self.now which (tree_of bitmap) block }
         requires word { word < per_block self.now.blocksize }
-        ensures { result ≡ system_word_of self.now which bitmap block word }
+        ensures { result ≡ system_word_of self.now which (tree_of bitmap) block word }
     {
-        let tree = self.tree(bitmap);
-        let base = self.base(which, bitmap);
-        let place = tree.place(block - base - tree.leaves);
-        tree.pointer(
+        self.tree_word(which, SystemTree::of(bitmap), block, word)
+    }
+
+    /// A word of a pointer block of a tree of an area.
+    pub fn tree_word(&self, which: Which, tree: SystemTree, block: u32, word: u32) -> u32
+        requires geometry { IsGeometry self.now }
+        requires block { IsPointerBlock self.now which tree block }
+        requires word { word < per_block self.now.blocksize }
+        ensures { result ≡ system_word_of self.now which tree block word }
+    {
+        let laid = self.laid(tree);
+        let base = self.base(which, tree);
+        let place = laid.place(block - base - laid.leaves);
+        laid.pointer(
             base,
             place.level - 1,
             place.index * (self.blocksize / 4) + word,
@@ -159,11 +207,11 @@ impl Geometry {
         ensures numbers { result ≡ numbers_of len blocksize inodes }
         ensures half { result.half < 2 ^ 28 }
     {
-        let bitmap = SystemTree {
+        let bitmap = LaidTree {
             blocksize,
             leaves: blocks.div_ceil(8).div_ceil(blocksize),
         };
-        let table = SystemTree {
+        let table = LaidTree {
             blocksize,
             leaves: (inodes * 128).div_ceil(blocksize),
         };
@@ -182,47 +230,51 @@ impl Geometry {
         }
     }
 
-    /// The tree over a half's bitmap, or over its inodes.
-    fn tree(&self, bitmap: bool) -> SystemTree
+    /// A tree of a half, as it is laid out.
+    fn laid(&self, tree: SystemTree) -> LaidTree
         requires { IsGeometry self.now }
         ensures blocksize { result.blocksize ≡ self.now.blocksize }
-        ensures leaves { result.leaves ≡ tree_leaves self.now bitmap }
+        ensures leaves { result.leaves ≡ tree_leaves self.now tree }
     {
-        SystemTree {
+        LaidTree {
             blocksize: self.blocksize,
-            leaves: if bitmap {
-                self.bitmap_leaves
-            } else {
-                self.inode_leaves
+            leaves: match tree {
+                SystemTree::Bitmap => self.bitmap_leaves,
+                SystemTree::Inodes => self.inode_leaves,
             },
         }
     }
 
     /// The first block of that tree in an area's half.
-    fn base(&self, which: Which, bitmap: bool) -> u32
+    fn base(&self, which: Which, tree: SystemTree) -> u32
         requires { IsGeometry self.now }
-        ensures { result ≡ tree_base self.now which bitmap }
+        ensures { result ≡ tree_base self.now which tree }
     {
-        let first = match which {
-            Which::First => 0,
-            Which::Second => self.half,
-        };
-        if bitmap {
-            first
-        } else {
-            first + self.bitmap_leaves + self.bitmap_pointers
+        let first = self.first_block(which);
+        match tree {
+            SystemTree::Bitmap => first,
+            SystemTree::Inodes => first + self.bitmap_leaves + self.bitmap_pointers,
+        }
+    }
+
+    /// How many pointer blocks that tree has.
+    fn pointers(&self, tree: SystemTree) -> u32
+        ensures { result ≡ tree_pointers self.now tree }
+    {
+        match tree {
+            SystemTree::Bitmap => self.bitmap_pointers,
+            SystemTree::Inodes => self.inode_pointers,
         }
     }
 
     /// The bytes of a half's bitmap, or of its inodes.
-    fn size(&self, bitmap: bool) -> u64
+    fn size(&self, tree: SystemTree) -> u64
         requires { IsGeometry self.now }
-        ensures { result ≡ tree_size self.now bitmap }
+        ensures { result ≡ tree_size self.now tree }
     {
-        if bitmap {
-            u64::from(self.num_blocks).div_ceil(8)
-        } else {
-            u64::from(self.num_inodes) * 128
+        match tree {
+            SystemTree::Bitmap => u64::from(self.num_blocks).div_ceil(8),
+            SystemTree::Inodes => u64::from(self.num_inodes) * 128,
         }
     }
 }

@@ -3,6 +3,7 @@ ghost use Rattle.std.specs.Prelude.{◌≡◌, ℕ, Bool, ◌+◌, ◌-◌, ◌*
 ghost use Rattle.qx_geom.specs.declared.area.Which.{Which};
 ghost use Rattle.qx_geom.specs.declared.area.Which.TheVariants as areas;
 ghost use Rattle.qx_geom.specs.declared.geometry.Geometry.{Geometry};
+ghost use Rattle.qx_geom.specs.declared.system.SystemTree.{SystemTree};
 ghost use Rattle.qx_geom.specs.Layout.{IsGeometry, IsPointerBlock, IsTreeBlock, area_place, first_block, geometry_of, levels_for, system_pointer, system_word_of, tree_base, tree_leaves};
 ghost use Rattle.qx_geom.specs.Lists.{Distinct, IsAscending, is_in};
 ghost use Rattle.qx_geom.specs.Pointer.{ceil_div, per_block, reach};
@@ -35,26 +36,26 @@ pub fn the_second_area_comes_last()
 
 /// The blocks of a system tree: which are pointer blocks, what points to each, and that they lie in its half.
 pub fn a_tree_stands_in_its_half()
-    ensures above { (g : Geometry) (which : Which) (bitmap : Bool) (level index block : ℕ) → IsGeometry g
-        → 1 ≤ level → IsTreeBlock g which bitmap level index block → IsPointerBlock g which bitmap block }
-    ensures placed { (g : Geometry) (which : Which) (bitmap : Bool) (block : ℕ) → IsGeometry g
-        → IsPointerBlock g which bitmap block
-        → (level : ℕ) × (index : ℕ) × (1 ≤ level) × IsTreeBlock g which bitmap level index block }
-    ensures pointer { (g : Geometry) (which : Which) (bitmap : Bool) (level index block : ℕ) → IsGeometry g
-        → IsTreeBlock g which bitmap level index block
-        → system_pointer g.blocksize (tree_base g which bitmap) (tree_leaves g bitmap) level index ≡ block }
-    ensures from { (g : Geometry) (which : Which) (bitmap : Bool) (level index block : ℕ) → IsGeometry g
-        → IsTreeBlock g which bitmap level index block → first_block g which ≤ block }
-    ensures to { (g : Geometry) (which : Which) (bitmap : Bool) (level index block : ℕ) → IsGeometry g
-        → IsTreeBlock g which bitmap level index block → block < first_block g which + g.half }
+    ensures above { (g : Geometry) (which : Which) (tree : SystemTree) (level index block : ℕ) → IsGeometry g
+        → 1 ≤ level → IsTreeBlock g which tree level index block → IsPointerBlock g which tree block }
+    ensures placed { (g : Geometry) (which : Which) (tree : SystemTree) (block : ℕ) → IsGeometry g
+        → IsPointerBlock g which tree block
+        → (level : ℕ) × (index : ℕ) × (1 ≤ level) × IsTreeBlock g which tree level index block }
+    ensures pointer { (g : Geometry) (which : Which) (tree : SystemTree) (level index block : ℕ) → IsGeometry g
+        → IsTreeBlock g which tree level index block
+        → system_pointer g.blocksize (tree_base g which tree) (tree_leaves g tree) level index ≡ block }
+    ensures from { (g : Geometry) (which : Which) (tree : SystemTree) (level index block : ℕ) → IsGeometry g
+        → IsTreeBlock g which tree level index block → first_block g which ≤ block }
+    ensures to { (g : Geometry) (which : Which) (tree : SystemTree) (level index block : ℕ) → IsGeometry g
+        → IsTreeBlock g which tree level index block → block < first_block g which + g.half }
 {}
 
 /// The words of a pointer block are pointers to the blocks of the level below, in their order.
 pub fn a_word_points_a_level_below()
-    ensures { (g : Geometry) (which : Which) (bitmap : Bool) (level index block word : ℕ) → IsGeometry g
-        → 1 ≤ level → IsTreeBlock g which bitmap level index block
-        → system_word_of g which bitmap block word
-        ≡ system_pointer g.blocksize (tree_base g which bitmap) (tree_leaves g bitmap) (level - 1) (index * per_block g.blocksize + word) }
+    ensures { (g : Geometry) (which : Which) (tree : SystemTree) (level index block word : ℕ) → IsGeometry g
+        → 1 ≤ level → IsTreeBlock g which tree level index block
+        → system_word_of g which tree block word
+        ≡ system_pointer g.blocksize (tree_base g which tree) (tree_leaves g tree) (level - 1) (index * per_block g.blocksize + word) }
 {}
 
 /// Where the present leaves ascend, the positions of each level do, and none stands twice.

@@ -10,6 +10,7 @@ mod examples;
 mod geometry;
 mod laws;
 mod root;
+mod system;
 mod tree;
 
 pub use area::Which;
@@ -18,7 +19,7 @@ pub use examples::{
     the_need_of_a_growing_node, the_need_of_a_moved_leaf, the_need_of_a_sparse_node,
     the_need_of_changed_levels,
 };
-pub use geometry::{GeomFault, Geometry};
+pub use geometry::{BLOCKS_BEGIN, FIRST_PLACE, GeomFault, Geometry};
 pub use laws::{
     a_tree_stands_in_its_half, a_word_points_a_level_below, no_change_needs_no_block,
     positions_of_a_level_ascend, present_leaves_after_a_change, the_fresh_positions_are_touched,
@@ -26,4 +27,5 @@ pub use laws::{
     the_test_decides_what_is_touched, the_volume_has_room_for_both_halves,
 };
 pub use root::{ABSENT, Root};
+pub use system::SystemTree;
 pub use tree::levels;

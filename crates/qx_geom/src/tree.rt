@@ -31,16 +31,16 @@ pub(crate) struct PointerPlace {
     pub(crate) index: u32,
 }
 
-/// The tree over a half's bitmap blocks, or over its inode blocks.
+/// A system tree of so many leaves, as its blocks are laid out.
 #[derive(Clone, Copy)]
-pub(crate) struct SystemTree {
+pub(crate) struct LaidTree {
     pub(crate) blocksize: u32,
     pub(crate) leaves: u32,
     ghost block_size: { IsTrue (is_block_size blocksize) },
     ghost few: { leaves ≤ 2 ^ 18 },
 }
 
-impl SystemTree {
+impl LaidTree {
     /// The levels above the leaves, at most 2.
     pub(crate) fn levels(self) -> u8
         ensures levels { result ≡ levels_for self.blocksize self.leaves }

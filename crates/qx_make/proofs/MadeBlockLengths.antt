@@ -7,6 +7,8 @@ use Rattle.qx_bytes.proofs.Pieces.{length-joined}
 use Rattle.qx_fields.specs.declared.order.Order.{Order}
 use Rattle.qx_fields.specs.Number.{digits}
 use Rattle.qx_fields.proofs.Fields.{length_digits}
+use Rattle.qx_geom.specs.declared.system.SystemTree.{SystemTree}
+use Rattle.qx_geom.specs.declared.system.SystemTree.TheVariants as trees
 use Rattle.qx_geom.specs.declared.area.Which.{Which}
 use Rattle.qx_geom.specs.declared.area.Which.TheVariants.{First, Second}
 use Rattle.qx_geom.specs.declared.geometry.Geometry.{Geometry}
@@ -25,11 +27,11 @@ module _ (g : Geometry) (e : IsGeometry g) (order : Order) (moment : ℕ) where
   unfolding bitmap_leaf_bytes
   length-bitmap_leaf i = length-map-range_with_len (λ (k : ℕ). bitmap_byte g (i * g.blocksize + k)) 0 g.blocksize
 
-  length-pointer_block : (which : Which) (bitmap : Bool) (b : ℕ) → length (pointer_block_bytes g order which bitmap b) ≡ g.blocksize
+  length-pointer_block : (which : Which) (tree : SystemTree) (b : ℕ) → length (pointer_block_bytes g order which tree b) ≡ g.blocksize
   unfolding pointer_block_bytes
-  length-pointer_block which bitmap b =
+  length-pointer_block which tree b =
       let words = block_size-words g.blocksize (IsGeometry-keeps g e).block_size in
-      omega (arith, words, length-parts (λ (w : ℕ). digits order 4 (system_word_of g which bitmap b w)) 4 (λ w. length_digits order 4 (system_word_of g which bitmap b w)) (g.blocksize / 4) 0)
+      omega (arith, words, length-parts (λ (w : ℕ). digits order 4 (system_word_of g which tree b w)) 4 (λ w. length_digits order 4 (system_word_of g which tree b w)) (g.blocksize / 4) 0)
 
   length-inode_leaf : (i : ℕ) → length (inode_leaf_bytes g order moment i) ≡ g.blocksize
   unfolding inode_leaf_bytes
@@ -48,11 +50,11 @@ module _ (g : Geometry) (e : IsGeometry g) (order : Order) (moment : ℕ) where
   length-half_block : (which : Which) (r : ℕ) → length (half_block_bytes g order moment which r) ≡ g.blocksize
   length-half_block which r = by_tests (nat_lt r g.bitmap_leaves) (nat_lt r (g.bitmap_leaves + g.bitmap_pointers)) (nat_lt r (g.bitmap_leaves + g.bitmap_pointers + g.inode_leaves))
     where
-      by_tests : (a b c : Bool) → length (if a then bitmap_leaf_bytes g r else if b then pointer_block_bytes g order which true (first_block g which + r) else if c then inode_leaf_bytes g order moment (r - (g.bitmap_leaves + g.bitmap_pointers)) else pointer_block_bytes g order which false (first_block g which + r)) ≡ g.blocksize
+      by_tests : (a b c : Bool) → length (if a then bitmap_leaf_bytes g r else if b then pointer_block_bytes g order which trees.Bitmap (first_block g which + r) else if c then inode_leaf_bytes g order moment (r - (g.bitmap_leaves + g.bitmap_pointers)) else pointer_block_bytes g order which trees.Inodes (first_block g which + r)) ≡ g.blocksize
       by_tests true b c = length-bitmap_leaf r
-      by_tests false true c = length-pointer_block which true (first_block g which + r)
+      by_tests false true c = length-pointer_block which trees.Bitmap (first_block g which + r)
       by_tests false false true = length-inode_leaf (r - (g.bitmap_leaves + g.bitmap_pointers))
-      by_tests false false false = length-pointer_block which false (first_block g which + r)
+      by_tests false false false = length-pointer_block which trees.Inodes (first_block g which + r)
 
   -- whichever it is
   pub length-made_block : (b : ℕ) → length (made_block_bytes g order moment b) ≡ g.blocksize

@@ -8,6 +8,8 @@ use Rattle.std.proofs.lemmas.List.Elements.{All-from_get_or, All-replicate}
 use Rattle.std.proofs.lemmas.List.FromFn.{get_or-map-range_with_len, length-map-range_with_len}
 use Rattle.qx_fields.specs.declared.order.Order.{Order}
 use Rattle.qx_fields.specs.declared.order.Order.TheVariants.{Little, Big}
+use Rattle.qx_geom.specs.declared.system.SystemTree.TheVariants as trees
+use Rattle.qx_geom.specs.declared.system.SystemTree.{SystemTree}
 use Rattle.qx_geom.specs.declared.area.Which.{Which}
 use Rattle.qx_geom.specs.declared.area.Which.TheVariants.{First, Second}
 use Rattle.qx_geom.specs.declared.geometry.Geometry.{Geometry}
@@ -36,33 +38,33 @@ pointer-lt false x low = omega arith
 
 module _ (g : Geometry) (e : IsGeometry g) where
   -- the size of a system tree fits
-  tree_size-lt : (bitmap : Bool) → tree_size g bitmap < 2 ^ 64
-  tree_size-lt true = let v = IsGeometry-keeps g e in let few = v.blocks_to in omega arith
-  tree_size-lt false = let v = IsGeometry-keeps g e in let few = v.inodes_to in omega arith
+  tree_size-lt : (tree : SystemTree) → tree_size g tree < 2 ^ 64
+  tree_size-lt trees.Bitmap = let v = IsGeometry-keeps g e in let few = v.blocks_to in omega arith
+  tree_size-lt trees.Inodes = let v = IsGeometry-keeps g e in let few = v.inodes_to in omega arith
 
   -- the pointers of a system tree's root node are block numbers, or absent
-  system_pointer-lt : (which : Which) (bitmap : Bool) (j : ℕ) → system_pointer g.blocksize (tree_base g which bitmap) (tree_leaves g bitmap) (levels_for g.blocksize (tree_leaves g bitmap)) j < 2 ^ 32
-  system_pointer-lt which bitmap j =
+  system_pointer-lt : (which : Which) (tree : SystemTree) (j : ℕ) → system_pointer g.blocksize (tree_base g which tree) (tree_leaves g tree) (levels_for g.blocksize (tree_leaves g tree)) j < 2 ^ 32
+  system_pointer-lt which tree j =
       let b = g.blocksize in
-      let n = tree_leaves g bitmap in
+      let n = tree_leaves g tree in
       let top = levels_for b n in
       let sized : is_block_size b ≡ true = (IsGeometry-keeps g e).block_size in
-      pointer-lt (nat_lt j (level_count b n top)) (tree_base g which bitmap + below_level b n top + j) (λ there.
-      omega (arith, ltb-true j (level_count b n top) there, level-within b n sized top (omega arith), tree-below g which bitmap e))
+      pointer-lt (nat_lt j (level_count b n top)) (tree_base g which tree + below_level b n top + j) (λ there.
+      omega (arith, ltb-true j (level_count b n top) there, level-within b n sized top (omega arith), tree-below g which tree e))
 
   -- so a system tree's root node fits
-  FitsRoot-system : (which : Which) (bitmap : Bool) → FitsRoot (system_root_of g which bitmap)
+  FitsRoot-system : (which : Which) (tree : SystemTree) → FitsRoot (system_root_of g which tree)
   unfolding system_root_of
-  FitsRoot-system which bitmap =
-      let f : ℕ → ℕ = λ (j : ℕ). system_pointer g.blocksize (tree_base g which bitmap) (tree_leaves g bitmap) (levels_for g.blocksize (tree_leaves g bitmap)) j in
+  FitsRoot-system which tree =
+      let f : ℕ → ℕ = λ (j : ℕ). system_pointer g.blocksize (tree_base g which tree) (tree_leaves g tree) (levels_for g.blocksize (tree_leaves g tree)) j in
       let pointers = map f (range_with_len 0 16) in
       let sixteen : length pointers ≡ 16 = length-map-range_with_len f 0 16 in
       record {
-        size = tree_size-lt bitmap;
+        size = tree_size-lt tree;
         sixteen = sixteen;
         pointers = All-from_get_or (λ (p : ℕ). p < 2 ^ 32) pointers 0 (λ i within.
             let same : get_or pointers i 0 ≡ f i = get_or-map-range_with_len f 0 16 i i 0 (omega (arith, sixteen)) (omega arith) in
-            omega (arith, same, system_pointer-lt which bitmap i));
+            omega (arith, same, system_pointer-lt which tree i));
       }
 
   module _ (order : Order) (moment : ℕ) (in_time : moment < 2 ^ 32) where
@@ -90,8 +92,8 @@ module _ (g : Geometry) (e : IsGeometry g) where
           free_inodes = omega arith;
           num_blocks = omega arith;
           free_blocks = omega arith;
-          inode = FitsRoot-system which false;
-          bitmap = FitsRoot-system which true;
+          inode = FitsRoot-system which trees.Inodes;
+          bitmap = FitsRoot-system which trees.Bitmap;
           longfile = FitsRoot-empty;
           fourth = FitsRoot-empty;
         }

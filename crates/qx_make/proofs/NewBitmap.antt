@@ -5,6 +5,7 @@ use Rattle.std.specs.Int.{bit_at}
 use Rattle.std.proofs.Math.Nat.{mod-lt}
 use Rattle.std.proofs.lemmas.Nat.{div-add-mod', div_below}
 use Rattle.std.proofs.lemmas.List.FromFn.{get_or-map-range_with_len}
+use Rattle.qx_geom.specs.declared.system.SystemTree.TheVariants as trees
 use Rattle.qx_geom.specs.declared.area.Which.{Which}
 use Rattle.qx_geom.specs.declared.geometry.Geometry.{Geometry}
 use Rattle.qx_geom.specs.Layout.{system_root_of}
@@ -76,7 +77,7 @@ module _ (v : NewBlocks) (which : Which) where
   g = v.geometry
 
   -- bit b of the bitmap says whether the block is held or none
-  pub new_bit : (b : ℕ) → b < g.bitmap_leaves * g.blocksize * 8 → bitmap_bit (blocks v) (system_root_of g which true) b ≡ bit_of (is_taken g b)
+  pub new_bit : (b : ℕ) → b < g.bitmap_leaves * g.blocksize * 8 → bitmap_bit (blocks v) (system_root_of g which trees.Bitmap) b ≡ bit_of (is_taken g b)
   unfolding bitmap_leaf_bytes bitmap_byte
   new_bit b low =
       let bounds = block_size-bounds g.blocksize (IsGeometry-keeps g v.whole).block_size in

@@ -3,6 +3,8 @@ use Rattle.std.proofs.Common.{◌≡◌, ℕ, inl, inr, ◌+◌, ◌-◌, ◌≤
 use Rattle.std.specs.Prelude.{if◌then◌else◌, ◌||◌, not}
 use Rattle.std.proofs.lemmas.Bool.{cases_lt, cond-true, cond-false, lt-ltb, le-ltb}
 use Rattle.qx_fields.specs.declared.order.Order.{Order}
+use Rattle.qx_geom.specs.declared.system.SystemTree.{SystemTree}
+use Rattle.qx_geom.specs.declared.system.SystemTree.TheVariants as trees
 use Rattle.qx_geom.specs.declared.area.Which.{Which}
 use Rattle.qx_geom.specs.declared.area.Which.TheVariants.{First, Second}
 use Rattle.qx_geom.specs.declared.geometry.Geometry.{Geometry}
@@ -62,9 +64,9 @@ inodes_from g e = elim (cases_lt g.num_inodes 16) [ inl few ↦ absurd (refused 
     refused few = let one : geometry_of g.len4 g.blocksize g.num_inodes ≡ Err Inodes = fault few in let other : geometry_of g.len4 g.blocksize g.num_inodes ≡ Ok g = e in cc
 
 -- a tree has as many leaves as its size fills
-pub leaves_filled : (g : Geometry) (bitmap : Bool) → IsGeometry g → ceil_div (tree_size g bitmap) g.blocksize ≡ tree_leaves g bitmap
-leaves_filled g true e = subst (λ (h : Geometry). ceil_div (tree_size h true) h.blocksize ≡ tree_leaves h true) (geometry_of-numbers g.len4 g.blocksize g.num_inodes g e) refl
-leaves_filled g false e = subst (λ (h : Geometry). ceil_div (tree_size h false) h.blocksize ≡ tree_leaves h false) (geometry_of-numbers g.len4 g.blocksize g.num_inodes g e) refl
+pub leaves_filled : (g : Geometry) (tree : SystemTree) → IsGeometry g → ceil_div (tree_size g tree) g.blocksize ≡ tree_leaves g tree
+leaves_filled g trees.Bitmap e = subst (λ (h : Geometry). ceil_div (tree_size h trees.Bitmap) h.blocksize ≡ tree_leaves h trees.Bitmap) (geometry_of-numbers g.len4 g.blocksize g.num_inodes g e) refl
+leaves_filled g trees.Inodes e = subst (λ (h : Geometry). ceil_div (tree_size h trees.Inodes) h.blocksize ≡ tree_leaves h trees.Inodes) (geometry_of-numbers g.len4 g.blocksize g.num_inodes g e) refl
 
 module _ (v : NewBlocks) where
   -- the volume's numbers
@@ -88,15 +90,15 @@ module _ (v : NewBlocks) where
       v.made (g.half + r) (omega arith) ∙ cond-false _ _ _ (le-ltb (g.half + r) g.half (omega arith)) ∙ cond-true _ _ _ (lt-ltb (g.half + r) (top_block g) (omega arith)) ∙ ap (λ k. half_block_bytes g v.order v.moment Second k) same
 
   -- a leaf of the bitmap
-  pub bitmap_bytes : (which : Which) (i : ℕ) → i < g.bitmap_leaves → v.bytes (tree_base g which true + i) ≡ bitmap_leaf_bytes g i
+  pub bitmap_bytes : (which : Which) (i : ℕ) → i < g.bitmap_leaves → v.bytes (tree_base g which trees.Bitmap + i) ≡ bitmap_leaf_bytes g i
   bitmap_bytes which i low = let n = numbers in half_bytes which i (omega arith) ∙ cond-true _ _ _ (lt-ltb i g.bitmap_leaves low)
 
   -- a leaf of the Inode tree
-  pub inode_leaf : (which : Which) (i : ℕ) → i < g.inode_leaves → v.bytes (tree_base g which false + i) ≡ inode_leaf_bytes g v.order v.moment i
+  pub inode_leaf : (which : Which) (i : ℕ) → i < g.inode_leaves → v.bytes (tree_base g which trees.Inodes + i) ≡ inode_leaf_bytes g v.order v.moment i
   inode_leaf which i low =
       let n = numbers in
       let r : ℕ = g.bitmap_leaves + g.bitmap_pointers + i in
-      let place : tree_base g which false + i ≡ first_block g which + r = omega arith in
+      let place : tree_base g which trees.Inodes + i ≡ first_block g which + r = omega arith in
       let back : r - (g.bitmap_leaves + g.bitmap_pointers) ≡ i = omega arith in
       ap v.bytes place ∙ half_bytes which r (omega arith)
       ∙ cond-false _ _ _ (le-ltb r g.bitmap_leaves (omega arith))
@@ -105,16 +107,16 @@ module _ (v : NewBlocks) where
       ∙ ap (λ k. inode_leaf_bytes g v.order v.moment k) back
 
   -- a pointer block
-  pub pointer_bytes : (which : Which) (bitmap : Bool) (b : ℕ) → IsPointerBlock g which bitmap b → v.bytes b ≡ pointer_block_bytes g v.order which bitmap b
-  pointer_bytes which true b p =
+  pub pointer_bytes : (which : Which) (tree : SystemTree) (b : ℕ) → IsPointerBlock g which tree b → v.bytes b ≡ pointer_block_bytes g v.order which tree b
+  pointer_bytes which trees.Bitmap b p =
       let n = numbers in
       let r : ℕ = b - first_block g which in
       let place : b ≡ first_block g which + r = omega (arith, p.from) in
       ap v.bytes place ∙ half_bytes which r (omega (arith, p.from, p.to))
       ∙ cond-false _ _ _ (le-ltb r g.bitmap_leaves (omega (arith, p.from)))
       ∙ cond-true _ _ _ (lt-ltb r (g.bitmap_leaves + g.bitmap_pointers) (omega (arith, p.to)))
-      ∙ ap (λ k. pointer_block_bytes g v.order which true k) (sym place)
-  pointer_bytes which false b p =
+      ∙ ap (λ k. pointer_block_bytes g v.order which trees.Bitmap k) (sym place)
+  pointer_bytes which trees.Inodes b p =
       let n = numbers in
       let r : ℕ = b - first_block g which in
       let place : b ≡ first_block g which + r = omega (arith, p.from) in
@@ -122,7 +124,7 @@ module _ (v : NewBlocks) where
       ∙ cond-false _ _ _ (le-ltb r g.bitmap_leaves (omega (arith, p.from)))
       ∙ cond-false _ _ _ (le-ltb r (g.bitmap_leaves + g.bitmap_pointers) (omega (arith, p.from)))
       ∙ cond-false _ _ _ (le-ltb r (g.bitmap_leaves + g.bitmap_pointers + g.inode_leaves) (omega (arith, p.from)))
-      ∙ ap (λ k. pointer_block_bytes g v.order which false k) (sym place)
+      ∙ ap (λ k. pointer_block_bytes g v.order which trees.Inodes k) (sym place)
 
   -- the root directory's block
   pub top_bytes : v.bytes (top_block g) ≡ top_directory_bytes v.order g.blocksize

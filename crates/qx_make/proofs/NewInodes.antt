@@ -7,6 +7,7 @@ use Rattle.std.proofs.lemmas.Bool.{and_parts, and_from, cases_eq, cond-true, con
 use Rattle.std.proofs.lemmas.List.Elements.{All-replicate}
 use Rattle.std.proofs.lemmas.List.{take_at, drop_at, drop-drop, drop-replicate}
 use Rattle.qx_fields.specs.declared.order.Order.{Order}
+use Rattle.qx_geom.specs.declared.system.SystemTree.TheVariants as trees
 use Rattle.qx_geom.specs.declared.area.Which.{Which}
 use Rattle.qx_geom.specs.declared.geometry.Geometry.{Geometry}
 use Rattle.qx_geom.specs.declared.root.Root.{Root}
@@ -92,7 +93,7 @@ module _ (v : NewBlocks) (which : Which) where
 
   -- its Inode root node
   abbrev inodes : Root
-  inodes = system_root_of g which false
+  inodes = system_root_of g which trees.Inodes
 
   -- the bounds of its block size
   bounds : BlockSizeBounds g.blocksize
@@ -100,7 +101,7 @@ module _ (v : NewBlocks) (which : Which) where
 
   -- the leaf of a byte below the Inode tree's size is one of the tree
   pub leaf_below : (k : ℕ) → k < g.num_inodes * 128 → k / g.blocksize < g.inode_leaves
-  leaf_below k low = let b = bounds in let filled = leaves_filled g false v.whole in omega (arith, part_below k (g.num_inodes * 128) g.blocksize (omega arith) low)
+  leaf_below k low = let b = bounds in let filled = leaves_filled g trees.Inodes v.whole in omega (arith, part_below k (g.num_inodes * 128) g.blocksize (omega arith) low)
 
   -- so is the first
   pub first_leaf : 0 < g.inode_leaves

@@ -1,6 +1,8 @@
 -- Where the blocks of a new volume's tree stand: in the two trees of a half, and behind both halves.
 use Rattle.std.proofs.Common.{◌≡◌, ℕ, inl, inr, zero, suc, ◌+◌, ◌≤◌, ◌<◌, [], ◌∷◌, Bool, true, false, refl, ap, sym, ◌∙◌, subst, arith, Some}
 use Rattle.std.specs.Prelude.{Contains, slice_get}
+use Rattle.qx_geom.specs.declared.system.SystemTree.{SystemTree}
+use Rattle.qx_geom.specs.declared.system.SystemTree.TheVariants as trees
 use Rattle.qx_geom.specs.declared.area.Which.{Which}
 use Rattle.qx_geom.specs.declared.geometry.Geometry.{Geometry}
 use Rattle.qx_geom.specs.declared.root.Root.{Root}
@@ -46,24 +48,24 @@ module _ (v : NewBlocks) (which : Which) where
   -- where a block of an owner's node stands
   data Stands : Owner → Visit → Type 0 where
     -- a block of the Inode tree
-    InInodes : {u : Visit} → StandsInTree v which false u → Stands OfInodes u
+    InInodes : {u : Visit} → StandsInTree v which trees.Inodes u → Stands OfInodes u
     -- of the Bitmap tree
-    InBitmap : {u : Visit} → StandsInTree v which true u → Stands (OfFurther 0) u
+    InBitmap : {u : Visit} → StandsInTree v which trees.Bitmap u → Stands (OfFurther 0) u
     -- or the directory's
     InTop : Stands (OfInode 1) (top_visit g)
 
   -- a further root node is the Bitmap's
-  one_further : (k : ℕ) (node : Root) → slice_get r.further k ≡ Some node → (k ≡ 0) × (node ≡ system_root_of g which true)
+  one_further : (k : ℕ) (node : Root) → slice_get r.further k ≡ Some node → (k ≡ 0) × (node ≡ system_root_of g which trees.Bitmap)
   one_further zero node e = (refl, cc)
   one_further (suc k) node e = absurd (cc)
 
   -- each block of the tree stands at one of those
   stands : (o : Owner) (u : Visit) → StandsAt m r (new_tree v) o u → Stands o u
-  stands OfInodes u (node, is, met) = InInodes (system_met v which false u (subst (λ x. Contains (visits_of m x) u) is met))
+  stands OfInodes u (node, is, met) = InInodes (system_met v which trees.Inodes u (subst (λ x. Contains (visits_of m x) u) is met))
   stands OfLongfile u (node, is, met) = let none : Contains (visits_of m empty_root) u = subst (λ x. Contains (visits_of m x) u) is met in absurd (omega (arith, none.1))
   stands (OfFurther k) u (node, is, met) =
-      let one : (k ≡ 0) × (node ≡ system_root_of g which true) = one_further k node is in
-      subst (λ j. Stands (OfFurther j) u) (sym one.0) (InBitmap (system_met v which true u (subst (λ x. Contains (visits_of m x) u) one.1 met)))
+      let one : (k ≡ 0) × (node ≡ system_root_of g which trees.Bitmap) = one_further k node is in
+      subst (λ j. Stands (OfFurther j) u) (sym one.0) (InBitmap (system_met v which trees.Bitmap u (subst (λ x. Contains (visits_of m x) u) one.1 met)))
   stands (OfInode n) u (node, has, met) =
       let only = only_entry g.blocksize g.num_inodes v.moment n has.0 has.1 in
       let is : node ≡ top_node v = has.3 ∙ ap (λ k. (inode_of m r.inodes k).root) only.0 ∙ ap (λ i. i.root) (top_inode_is v which) in
@@ -74,39 +76,39 @@ module _ (v : NewBlocks) (which : Which) where
       ]
 
   -- a block of a tree stands among the tree's blocks
-  in_tree : (bitmap : Bool) (u : Visit) → StandsInTree v which bitmap u → (tree_base g which bitmap ≤ u.block) × (u.block < tree_base g which bitmap + tree_blocks g.blocksize (tree_leaves g bitmap))
-  in_tree bitmap u s = (omega (arith, s.place), omega (arith, s.place, s.index_there, level-within g.blocksize (tree_leaves g bitmap) (IsGeometry-keeps g v.whole).block_size u.level s.level_there))
+  in_tree : (tree : SystemTree) (u : Visit) → StandsInTree v which tree u → (tree_base g which tree ≤ u.block) × (u.block < tree_base g which tree + tree_blocks g.blocksize (tree_leaves g tree))
+  in_tree tree u s = (omega (arith, s.place), omega (arith, s.place, s.index_there, level-within g.blocksize (tree_leaves g tree) (IsGeometry-keeps g v.whole).block_size u.level s.level_there))
 
   -- equal blocks of a tree stand at one position
-  same_visit : (bitmap : Bool) (a b : Visit) → StandsInTree v which bitmap a → StandsInTree v which bitmap b → a.block ≡ b.block → a ≡ b
-  same_visit bitmap a b s t e =
-      let one : (a.level ≡ b.level) × (a.index ≡ b.index) = one_place v which bitmap a.level b.level a.index b.index b.block (subst (λ x. IsTreeBlock g which bitmap a.level a.index x) e s) t in
+  same_visit : (tree : SystemTree) (a b : Visit) → StandsInTree v which tree a → StandsInTree v which tree b → a.block ≡ b.block → a ≡ b
+  same_visit tree a b s t e =
+      let one : (a.level ≡ b.level) × (a.index ≡ b.index) = one_place v which tree a.level b.level a.index b.index b.block (subst (λ x. IsTreeBlock g which tree a.level a.index x) e s) t in
       λ i. record { level = one.0 i; index = one.1 i; block = e i }
 
   -- the Bitmap tree comes before the Inode tree
-  bitmap_before : (u : Visit) → StandsInTree v which true u → u.block < tree_base g which false
-  bitmap_before u s = let n = IsGeometry-keeps g v.whole in omega (arith, (in_tree true u s).1)
+  bitmap_before : (u : Visit) → StandsInTree v which trees.Bitmap u → u.block < tree_base g which trees.Inodes
+  bitmap_before u s = let n = IsGeometry-keeps g v.whole in omega (arith, (in_tree trees.Bitmap u s).1)
 
   -- what stands in a tree comes before the directory's block
-  before_top : (bitmap : Bool) (u : Visit) → StandsInTree v which bitmap u → u.block < top_block g
-  before_top bitmap u s = omega (arith, (in_tree bitmap u s).1, tree-within g which bitmap v.whole, first_block-le g which)
+  before_top : (tree : SystemTree) (u : Visit) → StandsInTree v which tree u → u.block < top_block g
+  before_top tree u s = omega (arith, (in_tree tree u s).1, tree-within g which tree v.whole, first_block-le g which)
 
   -- they are blocks of the volume
   block_low : (o : Owner) (u : Visit) → Stands o u → u.block < g.num_blocks
-  block_low o u (InInodes s) = omega (arith, before_top false u s, top_low v)
-  block_low o u (InBitmap s) = omega (arith, before_top true u s, top_low v)
+  block_low o u (InInodes s) = omega (arith, before_top trees.Inodes u s, top_low v)
+  block_low o u (InBitmap s) = omega (arith, before_top trees.Bitmap u s, top_low v)
   block_low o u InTop = top_low v
 
   -- and none stands at two positions
   one_position : (o p : Owner) (a b : Visit) → Stands o a → Stands p b → a.block ≡ b.block → (o ≡ p) × (a ≡ b)
-  one_position o p a b (InInodes s) (InInodes t) e = (refl, same_visit false a b s t e)
-  one_position o p a b (InInodes s) (InBitmap t) e = absurd (omega (arith, (in_tree false a s).0, bitmap_before b t, e))
-  one_position o p a b (InInodes s) InTop e = absurd (omega (arith, before_top false a s, e))
-  one_position o p a b (InBitmap s) (InInodes t) e = absurd (omega (arith, (in_tree false b t).0, bitmap_before a s, e))
-  one_position o p a b (InBitmap s) (InBitmap t) e = (refl, same_visit true a b s t e)
-  one_position o p a b (InBitmap s) InTop e = absurd (omega (arith, before_top true a s, e))
-  one_position o p a b InTop (InInodes t) e = absurd (omega (arith, before_top false b t, e))
-  one_position o p a b InTop (InBitmap t) e = absurd (omega (arith, before_top true b t, e))
+  one_position o p a b (InInodes s) (InInodes t) e = (refl, same_visit trees.Inodes a b s t e)
+  one_position o p a b (InInodes s) (InBitmap t) e = absurd (omega (arith, (in_tree trees.Inodes a s).0, bitmap_before b t, e))
+  one_position o p a b (InInodes s) InTop e = absurd (omega (arith, before_top trees.Inodes a s, e))
+  one_position o p a b (InBitmap s) (InInodes t) e = absurd (omega (arith, (in_tree trees.Inodes b t).0, bitmap_before a s, e))
+  one_position o p a b (InBitmap s) (InBitmap t) e = (refl, same_visit trees.Bitmap a b s t e)
+  one_position o p a b (InBitmap s) InTop e = absurd (omega (arith, before_top trees.Bitmap a s, e))
+  one_position o p a b InTop (InInodes t) e = absurd (omega (arith, before_top trees.Inodes b t, e))
+  one_position o p a b InTop (InBitmap t) e = absurd (omega (arith, before_top trees.Bitmap b t, e))
   one_position o p a b InTop InTop e = (refl, refl)
 
   -- so no pointer of the tree is damaged

@@ -8,6 +8,7 @@ use Rattle.std.proofs.lemmas.Bool.{and_from, and_right, cases_order, cond-false,
 use Rattle.std.proofs.lemmas.Slice.Eq.{bytes_eq-Decides}
 use Rattle.qx_fields.specs.declared.order.Order.{Order}
 use Rattle.qx_fields.specs.declared.order.Order.TheVariants.{Little, Big}
+use Rattle.qx_geom.specs.declared.system.SystemTree.TheVariants as trees
 use Rattle.qx_geom.specs.declared.area.Which.{Which}
 use Rattle.qx_geom.specs.declared.area.Which.TheVariants.{First, Second}
 use Rattle.qx_geom.specs.declared.geometry.Geometry.{Geometry}
@@ -141,13 +142,13 @@ module _ (v : NewBlocks) where
 
     -- its Bitmap root node
     abbrev bitmap : Root
-    bitmap = system_root_of g which true
+    bitmap = system_root_of g which trees.Bitmap
 
     -- ---- the halves
 
     -- both halves are as they must be
     halves : (other : Which) → has_system_trees m g other ≡ true
-    halves other = and_from _ _ (system_tree_right v other true) (system_tree_right v other false)
+    halves other = and_from _ _ (system_tree_right v other trees.Bitmap) (system_tree_right v other trees.Inodes)
 
     -- the root nodes are the half's, and both halves are as they must be
     pub roots_and_halves : (is_same_root bitmap bitmap && (is_same_root r.inodes r.inodes && (has_system_trees m g First && has_system_trees m g Second))) ≡ true

@@ -5,6 +5,7 @@ use Rattle.std.specs.List.{list_all}
 use Rattle.std.proofs.Math.Nat.{mod_self, mul-div_cancel}
 use Rattle.std.proofs.lemmas.Nat.{div-add-mod'}
 use Rattle.std.proofs.lemmas.Bool.{and_from, and_left, and_right, cases_eq, cond-true, eq-eqb}
+use Rattle.qx_geom.specs.declared.system.SystemTree.TheVariants as trees
 use Rattle.qx_geom.specs.declared.area.Which.{Which}
 use Rattle.qx_geom.specs.declared.area.Which.TheVariants.{First, Second}
 use Rattle.qx_geom.specs.declared.geometry.Geometry.{Geometry}
@@ -42,7 +43,7 @@ module _ (v : NewBlocks) (which : Which) where
 
   -- its Bitmap root node
   abbrev bitmap : Root
-  bitmap = system_root_of g which true
+  bitmap = system_root_of g which trees.Bitmap
 
   -- how many bits the bitmap's leaves have
   abbrev bits : ℕ

@@ -3,6 +3,8 @@ use Rattle.std.proofs.Common.{◌≡◌, ℕ, ◌+◌, ◌-◌, ◌*◌, ◌/◌
 use Rattle.std.specs.Prelude.{IsTrue, nat_lt, map, filter}
 use Rattle.std.proofs.Math.Nat.{div-eq_of_lt, lt-div-mul-add, mul-div_cancel, mul-le-mul_right, pow-zero}
 use Rattle.std.proofs.lemmas.Bool.{and_from, cond-true, le-leb, lt-ltb}
+use Rattle.qx_geom.specs.declared.system.SystemTree.{SystemTree}
+use Rattle.qx_geom.specs.declared.system.SystemTree.TheVariants as trees
 use Rattle.qx_geom.specs.declared.area.Which.{Which}
 use Rattle.qx_geom.specs.declared.geometry.Geometry.{Geometry}
 use Rattle.qx_geom.specs.Layout.{levels_for, system_root_of, tree_leaves, tree_size}
@@ -66,21 +68,21 @@ module _ (v : NewBlocks) where
   empty_fits = and_from _ _ (and_from _ _ (le-leb 0 5 (omega arith)) (and_from _ _ (le-leb 0 (reach g.blocksize 0 * g.blocksize) (omega arith)) (le-leb 0 (2 ^ 48) (omega arith)))) (le-leb 0 (g.num_blocks * g.blocksize) (omega arith))
 
   -- and the root node of a system tree
-  pub system_fits : (which : Which) (bitmap : Bool) → IsTrue (root_fits m (system_root_of g which bitmap))
+  pub system_fits : (which : Which) (tree : SystemTree) → IsTrue (root_fits m (system_root_of g which tree))
   unfolding system_root_of
-  system_fits which bitmap =
+  system_fits which tree =
       let n = numbers in let b = bounds in
-      let size : ℕ = tree_size g bitmap in
-      let leaves : ℕ = tree_leaves g bitmap in
+      let size : ℕ = tree_size g tree in
+      let leaves : ℕ = tree_leaves g tree in
       let levels : ℕ = levels_for g.blocksize leaves in
-      let few : leaves ≤ 2 ^ 18 = tree_leaves-le g bitmap v.whole in
-      let filled : ceil_div size g.blocksize ≡ leaves = leaves_filled g bitmap v.whole in
+      let few : leaves ≤ 2 ^ 18 = tree_leaves-le g tree v.whole in
+      let filled : ceil_div size g.blocksize ≡ leaves = leaves_filled g tree v.whole in
       let within : size ≤ leaves * g.blocksize = subst (λ k. size ≤ k * g.blocksize) filled (size_within size g.blocksize (omega arith)) in
       let reached : leaves ≤ reach g.blocksize levels = levels_for-reach g.blocksize leaves 2 (omega arith) (reach-two g.blocksize leaves n.block_size few) in
       let up : levels ≤ 2 = levels_for-two g.blocksize leaves n.block_size few in
       let by_reach : leaves * g.blocksize ≤ reach g.blocksize levels * g.blocksize = mul-le-mul_right g.blocksize reached in
       let by_few : leaves * g.blocksize ≤ 2 ^ 18 * g.blocksize = mul-le-mul_right g.blocksize few in
-      let counted : leaves ≤ g.num_blocks = omega (arith, tree-counted v which bitmap, tree_blocks-is g.blocksize leaves n.block_size) in
+      let counted : leaves ≤ g.num_blocks = omega (arith, tree-counted v which tree, tree_blocks-is g.blocksize leaves n.block_size) in
       let by_count : leaves * g.blocksize ≤ g.num_blocks * g.blocksize = mul-le-mul_right g.blocksize counted in
       and_from _ _ (and_from _ _ (le-leb levels 5 (omega arith)) (and_from _ _ (le-leb size (reach g.blocksize levels * g.blocksize) (omega arith)) (le-leb size (2 ^ 48) (omega arith)))) (le-leb size (g.num_blocks * g.blocksize) (omega arith))
 
@@ -131,9 +133,9 @@ module _ (v : NewBlocks) where
         let n = numbers in let b = bounds in
         let none : leaves_below m empty_root ≡ 0 = div-eq_of_lt (omega arith) in
         record {
-          inodes_fit = system_fits which false;
+          inodes_fit = system_fits which trees.Inodes;
           longfile_fits = empty_fits;
-          further_fit = and_from _ _ (system_fits which true) refl;
+          further_fit = and_from _ _ (system_fits which trees.Bitmap) refl;
           rooted = empty_rooted g.blocksize g.num_inodes v.moment;
           places = empty_places g.blocksize g.num_inodes v.moment (omega (arith, inodes_from g v.whole)) ∙ sym (places_are which);
           each = λ k e is.

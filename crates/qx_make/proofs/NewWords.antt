@@ -4,6 +4,7 @@ use Rattle.std.specs.Prelude.{◌==◌, nat_lt}
 use Rattle.std.specs.List.{list_all}
 use Rattle.std.proofs.lemmas.Bool.{cond-true, cond_both, eq-eqb, lt-ltb, ltb-true}
 use Rattle.qx_fields.specs.Number.{field}
+use Rattle.qx_geom.specs.declared.system.SystemTree.{SystemTree}
 use Rattle.qx_geom.specs.declared.area.Which.{Which}
 use Rattle.qx_geom.specs.declared.geometry.Geometry.{Geometry}
 use Rattle.qx_geom.specs.Layout.{IsTreeBlock, below_level, is_block_size, level_count, levels_for, system_pointer, system_word_of, tree_base, tree_leaves}
@@ -19,18 +20,18 @@ use Rattle.qx_make.specs.Blocks.{pointer_block_bytes}
 use Rattle.qx_make.proofs.NewBlocks.{NewBlocks, blocks, pointer_bytes}
 use Rattle.qx_make.proofs.NumbersInRows.{field_digits}
 
-module _ (v : NewBlocks) (which : Which) (bitmap : Bool) where
+module _ (v : NewBlocks) (which : Which) (tree : SystemTree) where
   -- the volume's numbers
   abbrev g : Geometry
   g = v.geometry
 
   -- where the tree begins
   abbrev base : ℕ
-  base = tree_base g which bitmap
+  base = tree_base g which tree
 
   -- how many leaves it has
   abbrev n : ℕ
-  n = tree_leaves g bitmap
+  n = tree_leaves g tree
 
   -- the block size is one of the four
   sized : is_block_size g.blocksize ≡ true
@@ -40,20 +41,20 @@ module _ (v : NewBlocks) (which : Which) (bitmap : Bool) where
   pointer_small : (level index : ℕ) → level ≤ levels_for g.blocksize n → system_pointer g.blocksize base n level index < 2 ^ 32
   pointer_small level index up =
       cond_both (nat_lt index (level_count g.blocksize n level)) (base + below_level g.blocksize n level + index) absent (λ x. x < 2 ^ 32)
-      (λ t. omega (arith, ltb-true index (level_count g.blocksize n level) t, level-within g.blocksize n sized level up, tree-below g which bitmap v.whole)) (λ t. omega arith)
+      (λ t. omega (arith, ltb-true index (level_count g.blocksize n level) t, level-within g.blocksize n sized level up, tree-below g which tree v.whole)) (λ t. omega arith)
 
   -- a word of a pointer block leads a level below
-  pub word_is : (level index b w : ℕ) → 1 ≤ level → IsTreeBlock g which bitmap level index b → w < per_block g.blocksize → word (blocks v) b w ≡ system_pointer g.blocksize base n (level - 1) (index * per_block g.blocksize + w)
+  pub word_is : (level index b w : ℕ) → 1 ≤ level → IsTreeBlock g which tree level index b → w < per_block g.blocksize → word (blocks v) b w ≡ system_pointer g.blocksize base n (level - 1) (index * per_block g.blocksize + w)
   unfolding pointer_block_bytes
   word_is level index b w above t low =
-      let leads : system_word_of g which bitmap b w ≡ system_pointer g.blocksize base n (level - 1) (index * per_block g.blocksize + w) = system_word_of-is g which bitmap v.whole level index b w above t in
+      let leads : system_word_of g which tree b w ≡ system_pointer g.blocksize base n (level - 1) (index * per_block g.blocksize + w) = system_word_of-is g which tree v.whole level index b w above t in
       let small : system_pointer g.blocksize base n (level - 1) (index * per_block g.blocksize + w) < 2 ^ 32 = pointer_small (level - 1) (index * per_block g.blocksize + w) (omega (arith, t.level_there)) in
-      ap (λ (l : List ℕ). field v.order 4 l (4 * w)) (pointer_bytes v which bitmap b (IsPointerBlock-above g which bitmap v.whole level index b above t))
-      ∙ field_digits v.order 4 (λ w. system_word_of g which bitmap b w) (per_block g.blocksize) w low (omega (arith, leads, small))
+      ap (λ (l : List ℕ). field v.order 4 l (4 * w)) (pointer_bytes v which tree b (IsPointerBlock-above g which tree v.whole level index b above t))
+      ∙ field_digits v.order 4 (λ w. system_word_of g which tree b w) (per_block g.blocksize) w low (omega (arith, leads, small))
       ∙ leads
 
   -- the block of a level and an index
-  pub tree_block : (level index : ℕ) → level ≤ levels_for g.blocksize n → index < level_count g.blocksize n level → IsTreeBlock g which bitmap level index (base + below_level g.blocksize n level + index)
+  pub tree_block : (level index : ℕ) → level ≤ levels_for g.blocksize n → index < level_count g.blocksize n level → IsTreeBlock g which tree level index (base + below_level g.blocksize n level + index)
   tree_block level index up within = record { level_there = up; index_there = within; place = refl }
 
   -- its pointer

@@ -3,6 +3,8 @@ use Rattle.std.specs.Prelude.{ℕ, ◌≡◌, ◌+◌, ◌*◌, ◌-◌, ◌^◌
 use Rattle.std.specs.List.{range_with_len}
 use Rattle.qx_fields.specs.declared.order.Order.{Order}
 use Rattle.qx_fields.specs.Number.{digits}
+use Rattle.qx_geom.specs.declared.system.SystemTree.{SystemTree}
+use Rattle.qx_geom.specs.declared.system.SystemTree.TheVariants as trees
 use Rattle.qx_geom.specs.declared.area.Which.{Which}
 use Rattle.qx_geom.specs.declared.area.Which.TheVariants.{First, Second}
 use Rattle.qx_geom.specs.declared.geometry.Geometry.{Geometry}
@@ -65,8 +67,8 @@ bitmap_leaf_bytes g i = each_below g.blocksize (λ k. bitmap_byte g (i * g.block
 -- ---- a half
 
 -- a pointer block of an area's Bitmap or Inode tree
-unfoldable pub pointer_block_bytes : Geometry → Order → Which → Bool → ℕ → List ℕ
-pointer_block_bytes g order which bitmap b = flat_map (λ w. digits order 4 (system_word_of g which bitmap b w)) (range_with_len 0 (per_block g.blocksize))
+unfoldable pub pointer_block_bytes : Geometry → Order → Which → SystemTree → ℕ → List ℕ
+pointer_block_bytes g order which tree b = flat_map (λ w. digits order 4 (system_word_of g which tree b w)) (range_with_len 0 (per_block g.blocksize))
 
 -- leaf i of the Inode tree, where inode 1 alone is live
 unfoldable pub inode_leaf_bytes : Geometry → Order → ℕ → ℕ → List ℕ
@@ -77,9 +79,9 @@ inode_leaf_bytes g order moment i =
 abbrev pub half_block_bytes : Geometry → Order → ℕ → Which → ℕ → List ℕ
 half_block_bytes g order moment which r =
     if nat_lt r g.bitmap_leaves then bitmap_leaf_bytes g r
-    else if nat_lt r (g.bitmap_leaves + g.bitmap_pointers) then pointer_block_bytes g order which true (first_block g which + r)
+    else if nat_lt r (g.bitmap_leaves + g.bitmap_pointers) then pointer_block_bytes g order which trees.Bitmap (first_block g which + r)
     else if nat_lt r (g.bitmap_leaves + g.bitmap_pointers + g.inode_leaves) then inode_leaf_bytes g order moment (r - (g.bitmap_leaves + g.bitmap_pointers))
-    else pointer_block_bytes g order which false (first_block g which + r)
+    else pointer_block_bytes g order which trees.Inodes (first_block g which + r)
 
 -- block b of those that the maker writes
 unfoldable pub made_block_bytes : Geometry → Order → ℕ → ℕ → List ℕ

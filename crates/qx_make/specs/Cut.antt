@@ -1,6 +1,6 @@
 -- What a cut of the maker may leave, and on which premises.
 use Rattle.std.specs.Prelude.{ℕ, ◌≡◌, ◌≢◌, ◌+◌, ◌-◌, ◌≤◌, ◌⊎◌, ◌↔◌, true, List, ◌∷◌, ◌++◌, length, replicate, slice_index, slice_range, option_to_list, Some, Ok, Contains}
-use Rattle.qx_geom.specs.Layout.{whole_length}
+use Rattle.qx_geom.specs.Layout.{first_place, whole_length}
 use Rattle.qx_geom.specs.declared.area.Which.{Which}
 use Rattle.qx_outside.specs.Trail.{History, bytes_of}
 use Rattle.qx_outside.specs.Images.{IsImage, IsSettled}
@@ -20,12 +20,12 @@ last_place len = whole_length len - 0x1000
 
 -- the places at which a superblock is looked for in the old bytes or in the new ones
 abbrev pub places_of : List ℕ → ℕ → List ℕ
-places_of old size = 0x2000 ∷ last_place size ∷ last_place (length old) ∷ option_to_list (second_search old)
+places_of old size = first_place ∷ last_place size ∷ last_place (length old) ∷ option_to_list (second_search old)
 
 -- the old bytes, followed by any number of bytes 0, have a superblock's magic and a right checksum at no other place than the two at which their areas are looked for
 pub record HasNoOtherSuperblock (old : List ℕ) : Type 0 where
   pub others : (place n : ℕ) → place + 512 ≤ length old + n → has_right_checksum (slice_range (old ++ replicate n 0) place (place + 512)) ≡ true
-      → (place ≡ 0x2000) ⊎ (second_search old ≡ Some place)
+      → (place ≡ first_place) ⊎ (second_search old ≡ Some place)
 
 -- the premises on the device as the maker finds it
 pub record IsReadyToMake (h : History) : Type 0 where

@@ -1,6 +1,7 @@
 -- The superblocks of a new volume, and where its tree begins.
 use Rattle.std.specs.Prelude.{◌≡◌, ℕ, ◌-◌, ◌^◌, ◌<◌, true, false, List, [], ◌∷◌, length, replicate, Some, Ok}
 use Rattle.qx_fields.specs.declared.order.Order.{Order}
+use Rattle.qx_geom.specs.declared.system.SystemTree.TheVariants as trees
 use Rattle.qx_geom.specs.declared.area.Which.{Which}
 use Rattle.qx_geom.specs.declared.geometry.Geometry.{Geometry}
 use Rattle.qx_geom.specs.declared.root.Root.{Root}
@@ -30,15 +31,15 @@ made_superblock g order moment serial which = record {
   free_inodes = g.num_inodes - 1;
   num_blocks = g.num_blocks;
   free_blocks = user_blocks g - 1;
-  inode = system_root_of g which false;
-  bitmap = system_root_of g which true;
+  inode = system_root_of g which trees.Inodes;
+  bitmap = system_root_of g which trees.Bitmap;
   longfile = empty_root;
   fourth = empty_root;
 }
 
 -- where the tree of an area's half begins
 abbrev pub new_roots : Geometry → Which → Roots
-new_roots g which = record { inodes = system_root_of g which false; longfile = empty_root; further = system_root_of g which true ∷ [] }
+new_roots g which = record { inodes = system_root_of g which trees.Inodes; longfile = empty_root; further = system_root_of g which trees.Bitmap ∷ [] }
 
 -- an image has a new volume: its blocks are those that the maker writes at a moment, and this area is active with the maker's superblock
 pub record HasNewVolume (img : List ℕ) (g : Geometry) (order : Order) (moment serial : ℕ) (which : Which) : Type 0 where

@@ -8,7 +8,7 @@ use Rattle.qx_outside.specs.Trail.{History, bytes_of, lengths_asked, others_of, 
 use Rattle.qx_fields.specs.declared.order.Order.{Order}
 use Rattle.qx_geom.specs.declared.area.Which.TheVariants.{First, Second}
 use Rattle.qx_geom.specs.declared.geometry.Geometry.{Geometry}
-use Rattle.qx_geom.specs.Layout.{area_place}
+use Rattle.qx_geom.specs.Layout.{area_place, blocks_begin, first_place}
 use Rattle.qx_super.specs.declared.choice.Pick.{Pick}
 use Rattle.qx_super.specs.declared.choice.Pick.TheVariants as picks
 use Rattle.qx_super.specs.Superblock.{Superblock, second_place_of}
@@ -83,11 +83,11 @@ zero_stage bytes place = record { kept = bytes; puts = area_zeros (length bytes)
 
 -- the places that are zeroed one after another: the other area's and then the active one's, or the first area's where none is active
 abbrev pub places_by : Pick → Option Superblock → List ℕ
-places_by (picks.Active First) (Some s) = second_place_of s ∷ 0x2000 ∷ []
-places_by (picks.Active Second) (Some s) = 0x2000 ∷ second_place_of s ∷ []
-places_by (picks.Active which) None = 0x2000 ∷ []
-places_by picks.None s = 0x2000 ∷ []
-places_by picks.Disagree s = 0x2000 ∷ []
+places_by (picks.Active First) (Some s) = second_place_of s ∷ first_place ∷ []
+places_by (picks.Active Second) (Some s) = first_place ∷ second_place_of s ∷ []
+places_by (picks.Active which) None = first_place ∷ []
+places_by picks.None s = first_place ∷ []
+places_by picks.Disagree s = first_place ∷ []
 
 -- one place, or two
 abbrev pub places_of_two : ℕ → Option ℕ → List ℕ
@@ -124,7 +124,7 @@ clear_stage g bytes = areas_stage g (replicate 4096 0) (replicate 4096 0) bytes
 
 -- the blocks of both halves and of the root directory are put
 abbrev pub blocks_stage : Geometry → Order → ℕ → List ℕ → Stage
-blocks_stage g order moment bytes = record { kept = bytes; puts = record { at = 0x3000; bytes = all_block_bytes g order moment } ∷ [] }
+blocks_stage g order moment bytes = record { kept = bytes; puts = record { at = blocks_begin; bytes = all_block_bytes g order moment } ∷ [] }
 
 -- both superblocks are put
 abbrev pub supers_stage : Geometry → Order → ℕ → List ℕ → Stage

@@ -1,6 +1,7 @@
 -- The two superblocks of a new volume.
 use Rattle.std.specs.Prelude.{ℕ, ◌-◌, List, true, false}
 use Rattle.qx_fields.specs.declared.order.Order.{Order}
+use Rattle.qx_geom.specs.declared.system.SystemTree.TheVariants as trees
 use Rattle.qx_geom.specs.declared.area.Which.{Which}
 use Rattle.qx_geom.specs.declared.geometry.Geometry.{Geometry}
 use Rattle.qx_geom.specs.Area.{area_number}
@@ -22,8 +23,8 @@ made_super g order moment which = record {
   free_inodes = g.num_inodes - 1;
   num_blocks = g.num_blocks;
   free_blocks = user_blocks g - 1;
-  inode = system_root_of g which false;
-  bitmap = system_root_of g which true;
+  inode = system_root_of g which trees.Inodes;
+  bitmap = system_root_of g which trees.Bitmap;
   longfile = empty_root;
   fourth = empty_root;
 }

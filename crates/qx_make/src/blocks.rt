@@ -1,11 +1,11 @@
 //! The blocks of a new volume, one after another.
 ghost use Rattle.std.specs.Prelude.{◌≡◌, ◌+◌, ◌*◌, ◌^◌, ◌≤◌, ◌<◌, flat_map, length};
 ghost use Rattle.std.specs.List.{range_with_len};
-ghost use Rattle.qx_geom.specs.Layout.{IsGeometry, IsPointerBlock, first_block};
+ghost use Rattle.qx_geom.specs.Layout.{IsGeometry, IsPointerBlock};
 ghost use Rattle.qx_make.specs.Blocks.{bitmap_byte, bitmap_leaf_bytes, half_block_bytes, inode_leaf_bytes, is_taken, made_block_bytes, pointer_block_bytes, top_block, top_directory_bytes, top_inode};
 
 use qx_fields::{Order, put32};
-use qx_geom::{ABSENT, Geometry, Root, Which};
+use qx_geom::{ABSENT, Geometry, Root, SystemTree, Which};
 use qx_records::{Inode, write_inode, write_short};
 
 /// The volume that is made.
@@ -84,17 +84,17 @@ fn fill_pointer_block(
     geometry: &Geometry,
     order: Order,
     which: Which,
-    bitmap: bool,
+    tree: SystemTree,
     block: u32,
     into: &mut [u8],
 )
     requires geometry { IsGeometry geometry.now }
-    requires block { IsPointerBlock geometry.now which bitmap block }
+    requires block { IsPointerBlock geometry.now which tree block }
     requires into { length into.old ≡ geometry.now.blocksize }
-    ensures { into.new ≡ pointer_block_bytes geometry.now order which bitmap block }
+    ensures { into.new ≡ pointer_block_bytes geometry.now order which tree block }
 {
     for word in 0..geometry.blocksize / 4 {
-        let pointer = geometry.system_word(which, bitmap, block, word);
+        let pointer = geometry.tree_word(which, tree, block, word);
         put32(order, into, 4 * word as usize, pointer);
     }
 }
@@ -148,16 +148,6 @@ fn fill_top_directory(order: Order, into: &mut [u8])
     write_short(&mut into[32..64], order, 1, b"..");
 }
 
-/// The first block of an area's half.
-fn first_of_half(geometry: &Geometry, which: Which) -> u32
-    ensures { result ≡ first_block geometry.now which }
-{
-    match which {
-        Which::First => 0,
-        Which::Second => geometry.half,
-    }
-}
-
 /// Fills a block of an area's half, by its index there.
 fn fill_half_block(volume: &NewVolume, which: Which, index: u32, into: &mut [u8])
     requires geometry { IsGeometry volume.now.geometry }
@@ -166,17 +156,31 @@ fn fill_half_block(volume: &NewVolume, which: Which, index: u32, into: &mut [u8]
     ensures { into.new ≡ half_block_bytes volume.now.geometry volume.now.order volume.now.moment which index }
 {
     let geometry = &volume.geometry;
-    let first = first_of_half(geometry, which);
+    let first = geometry.first_block(which);
     let bitmap_blocks = geometry.bitmap_leaves + geometry.bitmap_pointers;
     if index < geometry.bitmap_leaves {
         fill_bitmap_leaf(geometry, index, into);
     } else if index < bitmap_blocks {
-        fill_pointer_block(geometry, volume.order, which, true, first + index, into);
+        fill_pointer_block(
+            geometry,
+            volume.order,
+            which,
+            SystemTree::Bitmap,
+            first + index,
+            into,
+        );
     } else if index < bitmap_blocks + geometry.inode_leaves {
         let leaf = index - bitmap_blocks;
         fill_inode_leaf(geometry, volume.order, volume.moment, leaf, into);
     } else {
-        fill_pointer_block(geometry, volume.order, which, false, first + index, into);
+        fill_pointer_block(
+            geometry,
+            volume.order,
+            which,
+            SystemTree::Inodes,
+            first + index,
+            into,
+        );
     }
 }
 

@@ -17,12 +17,9 @@ use crate::blocks::NewVolume;
 use crate::halves::write_blocks;
 use crate::{Made, MakeFault, MakeOptions};
 use qx_fields::Order;
-use qx_geom::{ABSENT, Geometry, Root, Which};
+use qx_geom::{ABSENT, FIRST_PLACE, Geometry, Root, SystemTree, Which};
 use qx_outside::{Dev, Failed};
 use qx_super::{Pick, Super, SuperView, active_view, areas, write_super};
-
-/// The byte at which the first area stands.
-const FIRST_PLACE: u64 = 0x2000;
 
 /// A root node of nothing.
 fn empty_node() -> Root
@@ -53,8 +50,8 @@ fn superblock(volume: &NewVolume, which: Which) -> Super
         free_inodes: geometry.num_inodes - 1,
         num_blocks: geometry.num_blocks,
         free_blocks: geometry.user() - 1,
-        inode: geometry.system_root(which, false),
-        bitmap: geometry.system_root(which, true),
+        inode: geometry.tree_root(which, SystemTree::Inodes),
+        bitmap: geometry.tree_root(which, SystemTree::Bitmap),
         longfile: empty_node(),
         fourth: empty_node(),
     }

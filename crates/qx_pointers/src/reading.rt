@@ -9,10 +9,8 @@ ghost use Rattle.qx_pointers.specs.Shown.{Fits, HasBlocks, JustReads, Shows};
 
 use crate::Shape;
 use qx_fields::get32s;
+use qx_geom::BLOCKS_BEGIN;
 use qx_outside::{Dev, Failed};
-
-/// Where block 0 stands, in bytes.
-const BLOCKS_BEGIN: u64 = 0x3000;
 
 /// Fills the slice with the bytes of a block.
 pub fn read_block<D: Dev>(

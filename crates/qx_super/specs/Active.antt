@@ -3,6 +3,7 @@ use Rattle.std.specs.Prelude.{◌≡◌, ℕ, ◌+◌, ◌-◌, ◌*◌, ◌/◌
 use Rattle.std.specs.Result.{result_ok}
 use Rattle.qx_fields.specs.declared.order.Order.{Order}
 use Rattle.qx_fields.specs.declared.order.Order.TheVariants.{Little, Big}
+use Rattle.qx_geom.specs.Layout.{first_place}
 use Rattle.qx_geom.specs.declared.area.Which.TheVariants.{First, Second}
 use Rattle.qx_super.specs.declared.choice.Pick.{Pick}
 use Rattle.qx_super.specs.declared.choice.Pick.TheVariants as picks
@@ -28,7 +29,7 @@ searched_place len None = if nat_le 4096 len then Some (len / 4096 * 4096 - 0x10
 
 -- the bytes of the first area
 abbrev pub first_area : List ℕ → Option (List ℕ)
-first_area img = area_at img 0x2000
+first_area img = area_at img first_place
 
 -- the valid superblock of the first area
 abbrev pub first_super : List ℕ → Option Superblock

@@ -4,7 +4,7 @@ use Rattle.qx_fields.specs.declared.order.Order.{Order}
 use Rattle.qx_fields.specs.declared.order.Order.TheVariants.{Little, Big}
 use Rattle.qx_fields.specs.Number.{field}
 use Rattle.qx_geom.specs.declared.root.Root.{Root}
-use Rattle.qx_geom.specs.Layout.{is_block_size}
+use Rattle.qx_geom.specs.Layout.{blocks_begin, is_block_size}
 use Rattle.qx_super.specs.Checksum.{checksum_of}
 use Rattle.qx_super.specs.RootNode.{root_of}
 use Rattle.qx_super.specs.declared.superblock.RootName.{RootName}
@@ -72,7 +72,7 @@ has_right_checksum bytes = has_checksum_in (order_of bytes) bytes
 
 -- the byte at which the second area stands, behind the last block
 abbrev pub second_place_of : Superblock → ℕ
-second_place_of s = 0x3000 + s.num_blocks * s.blocksize
+second_place_of s = blocks_begin + s.num_blocks * s.blocksize
 
 -- a device of this length has the blocks and the second superblock behind them
 abbrev pub fits_device : Superblock → ℕ → Bool

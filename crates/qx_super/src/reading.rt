@@ -7,10 +7,8 @@ ghost use Rattle.qx_outside.specs.Trail.{bytes_of};
 
 use crate::Pick;
 use crate::active::{first_in, pick, place_to_search, second_in};
+use qx_geom::FIRST_PLACE;
 use qx_outside::{Dev, Failed};
-
-/// The byte at which the first area stands, behind the boot area.
-const FIRST_PLACE: u64 = 0x2000;
 
 /// Fills the buffer with the 512 bytes at a place, or with 0 where the device lacks them.
 fn read_area<D: Dev>(

@@ -4,12 +4,15 @@ ghost use Rattle.qx_super.specs.Superblock.{order_of, fits_device, fields_in};
 
 use crate::{checksum, read_root};
 use qx_fields::{Order, get16, get32, get64};
-use qx_geom::Root;
+use qx_geom::{BLOCKS_BEGIN, Root};
 use std::marker::Model;
 use thiserror::Error;
 
 /// The number that a superblock begins with (`QNX6_SUPER_MAGIC` of `linux/magic.h`).
 pub const MAGIC: u32 = 0x6819_1122;
+
+/// The bytes of a superblock (`qnx6_fs.h`).
+const SUPER_BYTES: u64 = 512;
 
 /// Why 512 bytes are no valid superblock of a device, in the order of the tests.
 #[derive(Clone, Copy, Debug, PartialEq, Eq, Error)]
@@ -141,7 +144,7 @@ impl<'a> SuperView<'a> {
     pub fn second_place(&self) -> u64
         ensures { result ≡ second_place_of self.now }
     {
-        0x3000 + u64::from(self.num_blocks()) * u64::from(self.blocksize())
+        BLOCKS_BEGIN + u64::from(self.num_blocks()) * u64::from(self.blocksize())
     }
 
     /// One of the four root nodes.
@@ -181,5 +184,5 @@ fn do_blocks_fit(order: Order, bytes: &[u8], len: u64) -> bool
     let blocks = get32(order, bytes, 60);
     matches!(blocksize, 512 | 1024 | 2048 | 4096)
         && blocks != 0
-        && 0x3200 + u64::from(blocks) * u64::from(blocksize) <= len
+        && BLOCKS_BEGIN + u64::from(blocks) * u64::from(blocksize) + SUPER_BYTES <= len
 }

@@ -5,6 +5,8 @@ use Rattle.std.specs.List.{list_all}
 use Rattle.std.proofs.lemmas.Bool.{eqb-true, leb-true, cases_lt}
 use Rattle.std.proofs.lemmas.Slice.Eq.{bytes_eq-Decides}
 use Rattle.std.proofs.lemmas.Option.{same_Some}
+use Rattle.qx_geom.specs.declared.system.SystemTree.{SystemTree}
+use Rattle.qx_geom.specs.declared.system.SystemTree.TheVariants as trees
 use Rattle.qx_geom.proofs.BlockSizes.{block_size-bounds}
 use Rattle.qx_geom.proofs.LevelCounts.{level_count-leaves, tree_blocks-is}
 use Rattle.qx_geom.proofs.Truths.{and_left, and_right}
@@ -43,12 +45,12 @@ pub record IsGeometryOf (s : Superblock) (g : Geometry) : Type 0 where
   pub volume : IsGeometry g
   pub size : s.blocksize ≡ g.blocksize
   pub count : s.num_blocks ≡ g.num_blocks
-  pub leaves : (bitmap : Bool) → ceil_div (tree_size g bitmap) g.blocksize ≡ tree_leaves g bitmap
+  pub leaves : (tree : SystemTree) → ceil_div (tree_size g tree) g.blocksize ≡ tree_leaves g tree
 
 -- the leaves of both trees are those of their sizes
-leaves_of_size : (len each inodes : ℕ) (bitmap : Bool) → ceil_div (tree_size (numbers_of len each inodes) bitmap) each ≡ tree_leaves (numbers_of len each inodes) bitmap
-leaves_of_size len each inodes true = refl
-leaves_of_size len each inodes false = refl
+leaves_of_size : (len each inodes : ℕ) (tree : SystemTree) → ceil_div (tree_size (numbers_of len each inodes) tree) each ≡ tree_leaves (numbers_of len each inodes) tree
+leaves_of_size len each inodes trees.Bitmap = refl
+leaves_of_size len each inodes trees.Inodes = refl
 
 -- the geometry with which an image's reasons are asked
 pub written_is : (s : Superblock) (len : ℕ) (g : Geometry) → written_geometry s len ≡ Some g → IsGeometryOf s g
@@ -61,7 +63,7 @@ written_is s len g e = by_result (geometry_of len s.blocksize s.num_inodes) refl
           volume = IsGeometry-of len s.blocksize s.num_inodes g ok;
           size = ap (λ (x : Geometry). x.blocksize) numbers;
           count = sym (eqb-true g.num_blocks s.num_blocks (and_left (g.num_blocks == s.num_blocks) _ written));
-          leaves = subst (λ (x : Geometry). (bitmap : Bool) → ceil_div (tree_size x bitmap) x.blocksize ≡ tree_leaves x bitmap) numbers (leaves_of_size len s.blocksize s.num_inodes);
+          leaves = subst (λ (x : Geometry). (tree : SystemTree) → ceil_div (tree_size x tree) x.blocksize ≡ tree_leaves x tree) numbers (leaves_of_size len s.blocksize s.num_inodes);
         }
 
     by_test : (h : Geometry) (b : Bool) → is_written_by s h ≡ b → geometry_of len s.blocksize s.num_inodes ≡ Ok h → (if b then Some h else None) ≡ Some g → IsGeometryOf s g
@@ -108,14 +110,14 @@ same_root a b e =
     λ i. record { size = size i; pointers = pointers i; levels = levels i }
 
 -- a node is the root of a tree of this half, whose words are right
-record IsHalfTree (m : BlockMap) (g : Geometry) (which : Which) (bitmap : Bool) (node : Root) : Type 0 where
-  root : node ≡ system_tree m.size (tree_base g which bitmap) (tree_leaves g bitmap) (tree_size g bitmap)
-  words : is_system_tree m (tree_base g which bitmap) (tree_leaves g bitmap) ≡ true
+record IsHalfTree (m : BlockMap) (g : Geometry) (which : Which) (tree : SystemTree) (node : Root) : Type 0 where
+  root : node ≡ system_tree m.size (tree_base g which tree) (tree_leaves g tree) (tree_size g tree)
+  words : is_system_tree m (tree_base g which tree) (tree_leaves g tree) ≡ true
 
 -- the root node of a superblock that its half must have
-abbrev pub root_of_half : Superblock → Bool → Root
-root_of_half s true = s.bitmap
-root_of_half s false = s.inode
+abbrev pub root_of_half : Superblock → SystemTree → Root
+root_of_half s trees.Bitmap = s.bitmap
+root_of_half s trees.Inodes = s.inode
 
 module _ (m : BlockMap) (s : Superblock) (g : Geometry) (which : Which) (of : IsGeometryOf s g) (size : m.size ≡ s.blocksize) (count : m.count ≡ s.num_blocks) (right : is_laid_out m s g which ≡ true) where
   -- the blocks have the geometry's size
@@ -127,101 +129,101 @@ module _ (m : BlockMap) (s : Superblock) (g : Geometry) (which : Which) (of : Is
   sized = ap is_block_size each ∙ (IsGeometry-keeps g of.volume).block_size
 
   -- both trees of the active half are as they must be
-  half_tree : (bitmap : Bool) → IsHalfTree m g which bitmap (root_of_half s bitmap)
+  half_tree : (tree : SystemTree) → IsHalfTree m g which tree (root_of_half s tree)
   unfolding system_root_of
-  half_tree bitmap = record { root = by_root bitmap; words = by_words bitmap (of_half which) }
+  half_tree tree = record { root = by_root tree; words = by_words tree (of_half which) }
     where
-      rest : (is_same_root s.inode (system_root_of g which false) && (has_system_trees m g First && has_system_trees m g Second)) ≡ true
-      rest = and_right (is_same_root s.bitmap (system_root_of g which true)) _ right
+      rest : (is_same_root s.inode (system_root_of g which trees.Inodes) && (has_system_trees m g First && has_system_trees m g Second)) ≡ true
+      rest = and_right (is_same_root s.bitmap (system_root_of g which trees.Bitmap)) _ right
 
       of_half : (w : Which) → has_system_trees m g w ≡ true
-      of_half First = and_left (has_system_trees m g First) _ (and_right (is_same_root s.inode (system_root_of g which false)) _ rest)
-      of_half Second = and_right (has_system_trees m g First) _ (and_right (is_same_root s.inode (system_root_of g which false)) _ rest)
+      of_half First = and_left (has_system_trees m g First) _ (and_right (is_same_root s.inode (system_root_of g which trees.Inodes)) _ rest)
+      of_half Second = and_right (has_system_trees m g First) _ (and_right (is_same_root s.inode (system_root_of g which trees.Inodes)) _ rest)
 
-      by_words : (bitmap : Bool) → has_system_trees m g which ≡ true → is_system_tree m (tree_base g which bitmap) (tree_leaves g bitmap) ≡ true
-      by_words true half = and_left (is_system_tree m (tree_base g which true) (tree_leaves g true)) _ half
-      by_words false half = and_right (is_system_tree m (tree_base g which true) (tree_leaves g true)) _ half
+      by_words : (tree : SystemTree) → has_system_trees m g which ≡ true → is_system_tree m (tree_base g which tree) (tree_leaves g tree) ≡ true
+      by_words trees.Bitmap half = and_left (is_system_tree m (tree_base g which trees.Bitmap) (tree_leaves g trees.Bitmap)) _ half
+      by_words trees.Inodes half = and_right (is_system_tree m (tree_base g which trees.Bitmap) (tree_leaves g trees.Bitmap)) _ half
 
-      by_root : (bitmap : Bool) → root_of_half s bitmap ≡ system_tree m.size (tree_base g which bitmap) (tree_leaves g bitmap) (tree_size g bitmap)
-      by_root true = same_root s.bitmap (system_root_of g which true) (and_left (is_same_root s.bitmap (system_root_of g which true)) _ right) ∙ ap (λ z. system_tree z (tree_base g which true) (tree_leaves g true) (tree_size g true)) (sym each)
-      by_root false = same_root s.inode (system_root_of g which false) (and_left (is_same_root s.inode (system_root_of g which false)) _ rest) ∙ ap (λ z. system_tree z (tree_base g which false) (tree_leaves g false) (tree_size g false)) (sym each)
+      by_root : (tree : SystemTree) → root_of_half s tree ≡ system_tree m.size (tree_base g which tree) (tree_leaves g tree) (tree_size g tree)
+      by_root trees.Bitmap = same_root s.bitmap (system_root_of g which trees.Bitmap) (and_left (is_same_root s.bitmap (system_root_of g which trees.Bitmap)) _ right) ∙ ap (λ z. system_tree z (tree_base g which trees.Bitmap) (tree_leaves g trees.Bitmap) (tree_size g trees.Bitmap)) (sym each)
+      by_root trees.Inodes = same_root s.inode (system_root_of g which trees.Inodes) (and_left (is_same_root s.inode (system_root_of g which trees.Inodes)) _ rest) ∙ ap (λ z. system_tree z (tree_base g which trees.Inodes) (tree_leaves g trees.Inodes) (tree_size g trees.Inodes)) (sym each)
 
   -- the bitmap has the geometry's leaves
   pub bitmap_leaves_are : leaves_below m s.bitmap ≡ g.bitmap_leaves
-  bitmap_leaves_are = ap (λ node. leaves_below m node) (half_tree true).root ∙ ap (λ z. ceil_div (tree_size g true) z) each ∙ of.leaves true
+  bitmap_leaves_are = ap (λ node. leaves_below m node) (half_tree trees.Bitmap).root ∙ ap (λ z. ceil_div (tree_size g trees.Bitmap) z) each ∙ of.leaves trees.Bitmap
 
   -- leaf i of the bitmap is the block that stands i behind the half's first
   pub bitmap_leaf : (i : ℕ) → i < g.bitmap_leaves → leaf_of m s.bitmap i ≡ Block (first_block g which + i)
   bitmap_leaf i low =
-      let tree : IsHalfTree m g which true s.bitmap = half_tree true in
+      let laid : IsHalfTree m g which trees.Bitmap s.bitmap = half_tree trees.Bitmap in
       let numbers : VolumeNumbers g = IsGeometry-keeps g of.volume in
       let bounds = block_size-bounds m.size sized in
-      let all : tree_base g which true + tree_blocks m.size g.bitmap_leaves ≤ first_block g which + g.half = subst (λ z. tree_base g which true + tree_blocks z g.bitmap_leaves ≤ first_block g which + g.half) (sym each) (tree-within g which true of.volume) in
-      let below : tree_base g which true + tree_blocks m.size g.bitmap_leaves ≤ 2 ^ 28 = subst (λ z. tree_base g which true + tree_blocks z g.bitmap_leaves ≤ 2 ^ 28) (sym each) (tree-below g which true of.volume) in
-      let counted : tree_base g which true + tree_blocks m.size g.bitmap_leaves ≤ m.count = omega (arith, all, first_block-le g which, numbers.room, count, of.count) in
+      let all : tree_base g which trees.Bitmap + tree_blocks m.size g.bitmap_leaves ≤ first_block g which + g.half = subst (λ z. tree_base g which trees.Bitmap + tree_blocks z g.bitmap_leaves ≤ first_block g which + g.half) (sym each) (tree-within g which trees.Bitmap of.volume) in
+      let below : tree_base g which trees.Bitmap + tree_blocks m.size g.bitmap_leaves ≤ 2 ^ 28 = subst (λ z. tree_base g which trees.Bitmap + tree_blocks z g.bitmap_leaves ≤ 2 ^ 28) (sym each) (tree-below g which trees.Bitmap of.volume) in
+      let counted : tree_base g which trees.Bitmap + tree_blocks m.size g.bitmap_leaves ≤ m.count = omega (arith, all, first_block-le g which, numbers.room, count, of.count) in
       let there : i < level_count m.size g.bitmap_leaves 0 = omega (arith, low, level_count-leaves m.size g.bitmap_leaves sized) in
       let few : g.bitmap_leaves ≤ tree_blocks m.size g.bitmap_leaves = omega (arith, tree_blocks-is m.size g.bitmap_leaves sized) in
-      let met : Contains (visits_of m (system_tree m.size (tree_base g which true) g.bitmap_leaves (tree_size g true))) (record { level = 0; index = i; block = first_block g which + 0 + i })
-      = met_of_level m (tree_base g which true) g.bitmap_leaves (tree_size g true) sized tree.words (tree_leaves-le g true of.volume) below counted
-      (ap (λ z. ceil_div (tree_size g true) z) each ∙ of.leaves true) (levels_for m.size g.bitmap_leaves) 0 i (omega arith) there in
-      subst (λ node. leaf_of m node i ≡ Block (first_block g which + i)) (sym tree.root)
-      (node_leaf_found m (system_tree m.size (tree_base g which true) g.bitmap_leaves (tree_size g true)) (record { level = 0; index = i; block = first_block g which + 0 + i }) (omega (arith, bounds.pointers_from)) met refl (omega (arith, low, few, counted))
+      let met : Contains (visits_of m (system_tree m.size (tree_base g which trees.Bitmap) g.bitmap_leaves (tree_size g trees.Bitmap))) (record { level = 0; index = i; block = first_block g which + 0 + i })
+      = met_of_level m (tree_base g which trees.Bitmap) g.bitmap_leaves (tree_size g trees.Bitmap) sized laid.words (tree_leaves-le g trees.Bitmap of.volume) below counted
+      (ap (λ z. ceil_div (tree_size g trees.Bitmap) z) each ∙ of.leaves trees.Bitmap) (levels_for m.size g.bitmap_leaves) 0 i (omega arith) there in
+      subst (λ node. leaf_of m node i ≡ Block (first_block g which + i)) (sym laid.root)
+      (node_leaf_found m (system_tree m.size (tree_base g which trees.Bitmap) g.bitmap_leaves (tree_size g trees.Bitmap)) (record { level = 0; index = i; block = first_block g which + 0 + i }) (omega (arith, bounds.pointers_from)) met refl (omega (arith, low, few, counted))
       ∙ ap (λ b. Block b) (let e : first_block g which + 0 + i ≡ first_block g which + i = omega arith in e))
 
   -- the blocks of a tree of the half lie in the half
-  tree_in_half : (bitmap : Bool) (b : ℕ) → IsInTree m.size (tree_base g which bitmap) (tree_leaves g bitmap) b → (first_block g which ≤ b) × (b < first_block g which + g.half)
-  tree_in_half bitmap b inside = (omega (arith, start bitmap, inside.from), omega (arith, inside.to, subst (λ z. tree_base g which bitmap + tree_blocks z (tree_leaves g bitmap) ≤ first_block g which + g.half) (sym each) (tree-within g which bitmap of.volume)))
+  tree_in_half : (tree : SystemTree) (b : ℕ) → IsInTree m.size (tree_base g which tree) (tree_leaves g tree) b → (first_block g which ≤ b) × (b < first_block g which + g.half)
+  tree_in_half tree b inside = (omega (arith, start tree, inside.from), omega (arith, inside.to, subst (λ z. tree_base g which tree + tree_blocks z (tree_leaves g tree) ≤ first_block g which + g.half) (sym each) (tree-within g which tree of.volume)))
     where
-      start : (bitmap : Bool) → first_block g which ≤ tree_base g which bitmap
-      start true = omega arith
-      start false = omega arith
+      start : (tree : SystemTree) → first_block g which ≤ tree_base g which tree
+      start trees.Bitmap = omega arith
+      start trees.Inodes = omega arith
 
   -- what its root node meets lies in the half
-  pub root_in_half : (bitmap : Bool) (v : Visit) → Contains (visits_of m (root_of_half s bitmap)) v → (first_block g which ≤ v.block) × (v.block < first_block g which + g.half)
-  root_in_half bitmap v c =
-      let tree : IsHalfTree m g which bitmap (root_of_half s bitmap) = half_tree bitmap in
-      tree_in_half bitmap v.block (met_in_tree m (tree_base g which bitmap) (tree_leaves g bitmap) sized tree.words (tree_size g bitmap) v (subst (λ node. Contains (visits_of m node) v) tree.root c))
+  pub root_in_half : (tree : SystemTree) (v : Visit) → Contains (visits_of m (root_of_half s tree)) v → (first_block g which ≤ v.block) × (v.block < first_block g which + g.half)
+  root_in_half tree v c =
+      let laid : IsHalfTree m g which tree (root_of_half s tree) = half_tree tree in
+      tree_in_half tree v.block (met_in_tree m (tree_base g which tree) (tree_leaves g tree) sized laid.words (tree_size g tree) v (subst (λ node. Contains (visits_of m node) v) laid.root c))
 
   -- and its root node meets each block of the tree
-  pub root_meets : (bitmap : Bool) (b : ℕ) → IsInTree m.size (tree_base g which bitmap) (tree_leaves g bitmap) b → (v : Visit) × Contains (visits_of m (root_of_half s bitmap)) v × (v.block ≡ b)
-  root_meets bitmap b inside =
-      let tree : IsHalfTree m g which bitmap (root_of_half s bitmap) = half_tree bitmap in
+  pub root_meets : (tree : SystemTree) (b : ℕ) → IsInTree m.size (tree_base g which tree) (tree_leaves g tree) b → (v : Visit) × Contains (visits_of m (root_of_half s tree)) v × (v.block ≡ b)
+  root_meets tree b inside =
+      let laid : IsHalfTree m g which tree (root_of_half s tree) = half_tree tree in
       let numbers : VolumeNumbers g = IsGeometry-keeps g of.volume in
-      let low : tree_base g which bitmap + tree_blocks m.size (tree_leaves g bitmap) ≤ 2 ^ 28 = subst (λ z. tree_base g which bitmap + tree_blocks z (tree_leaves g bitmap) ≤ 2 ^ 28) (sym each) (tree-below g which bitmap of.volume) in
-      let within : tree_base g which bitmap + tree_blocks m.size (tree_leaves g bitmap) ≤ first_block g which + g.half = subst (λ z. tree_base g which bitmap + tree_blocks z (tree_leaves g bitmap) ≤ first_block g which + g.half) (sym each) (tree-within g which bitmap of.volume) in
-      let met = tree_met m (tree_base g which bitmap) (tree_leaves g bitmap) (tree_size g bitmap) sized tree.words (tree_leaves-le g bitmap of.volume) low
+      let low : tree_base g which tree + tree_blocks m.size (tree_leaves g tree) ≤ 2 ^ 28 = subst (λ z. tree_base g which tree + tree_blocks z (tree_leaves g tree) ≤ 2 ^ 28) (sym each) (tree-below g which tree of.volume) in
+      let within : tree_base g which tree + tree_blocks m.size (tree_leaves g tree) ≤ first_block g which + g.half = subst (λ z. tree_base g which tree + tree_blocks z (tree_leaves g tree) ≤ first_block g which + g.half) (sym each) (tree-within g which tree of.volume) in
+      let met = tree_met m (tree_base g which tree) (tree_leaves g tree) (tree_size g tree) sized laid.words (tree_leaves-le g tree of.volume) low
       (omega (arith, within, first_block-le g which, numbers.room, count, of.count))
-      (ap (λ z. ceil_div (tree_size g bitmap) z) each ∙ of.leaves bitmap) b inside in
-      (met.0, subst (λ node. Contains (visits_of m node) met.0) (sym tree.root) met.1, met.2)
+      (ap (λ z. ceil_div (tree_size g tree) z) each ∙ of.leaves tree) b inside in
+      (met.0, subst (λ node. Contains (visits_of m node) met.0) (sym laid.root) met.1, met.2)
 
   -- a block of the half is one of its bitmap's tree, or of its inodes'
-  pub half_is_trees : (b : ℕ) → first_block g which ≤ b → b < first_block g which + g.half → (bitmap : Bool) × IsInTree m.size (tree_base g which bitmap) (tree_leaves g bitmap) b
+  pub half_is_trees : (b : ℕ) → first_block g which ≤ b → b < first_block g which + g.half → (tree : SystemTree) × IsInTree m.size (tree_base g which tree) (tree_leaves g tree) b
   half_is_trees b from to =
       let numbers : VolumeNumbers g = IsGeometry-keeps g of.volume in
       let blocks : (n : ℕ) → tree_blocks m.size n ≡ tree_blocks g.blocksize n = λ n. ap (λ z. tree_blocks z n) each in
       elim (cases_lt b (first_block g which + g.bitmap_leaves + g.bitmap_pointers)) [
-        | inl low ↦ (true, record { from = from; to = omega (arith, low, blocks g.bitmap_leaves, numbers.bitmap_blocks) })
-        | inr high ↦ (false, record { from = high; to = omega (arith, to, blocks g.inode_leaves, numbers.inode_blocks, numbers.parts) })
+        | inl low ↦ (trees.Bitmap, record { from = from; to = omega (arith, low, blocks g.bitmap_leaves, numbers.bitmap_blocks) })
+        | inr high ↦ (trees.Inodes, record { from = high; to = omega (arith, to, blocks g.inode_leaves, numbers.inode_blocks, numbers.parts) })
       ]
 
   -- the half is held
   pub half_held : (t : Tree) (b : ℕ) → first_block g which ≤ b → b < first_block g which + g.half → IsHeld m (main_roots s) t b
   half_held t b from to = let at = half_is_trees b from to in by_tree at.0 (root_meets at.0 b at.1)
     where
-      by_tree : (bitmap : Bool) → (v : Visit) × Contains (visits_of m (root_of_half s bitmap)) v × (v.block ≡ b) → IsHeld m (main_roots s) t b
-      by_tree true met = (OfFurther 0, met.0, (s.bitmap, refl, met.1), met.2)
-      by_tree false met = (OfInodes, met.0, (s.inode, refl, met.1), met.2)
+      by_tree : (tree : SystemTree) → (v : Visit) × Contains (visits_of m (root_of_half s tree)) v × (v.block ≡ b) → IsHeld m (main_roots s) t b
+      by_tree trees.Bitmap met = (OfFurther 0, met.0, (s.bitmap, refl, met.1), met.2)
+      by_tree trees.Inodes met = (OfInodes, met.0, (s.inode, refl, met.1), met.2)
 
   -- and so are its pointer blocks
-  pub pointer_held : (t : Tree) (bitmap : Bool) (b : ℕ) → IsPointerBlock g which bitmap b → IsHeld m (main_roots s) t b
-  pointer_held t bitmap b p = by_tree bitmap p
+  pub pointer_held : (t : Tree) (tree : SystemTree) (b : ℕ) → IsPointerBlock g which tree b → IsHeld m (main_roots s) t b
+  pointer_held t tree b p = by_tree tree p
     where
       numbers : VolumeNumbers g
       numbers = IsGeometry-keeps g of.volume
 
-      by_tree : (bitmap : Bool) → IsPointerBlock g which bitmap b → IsHeld m (main_roots s) t b
-      by_tree true p = half_held t b (omega (arith, p.from)) (omega (arith, p.to, numbers.parts))
-      by_tree false p = half_held t b (omega (arith, p.from)) (omega (arith, p.to, numbers.parts))
+      by_tree : (tree : SystemTree) → IsPointerBlock g which tree b → IsHeld m (main_roots s) t b
+      by_tree trees.Bitmap p = half_held t b (omega (arith, p.from)) (omega (arith, p.to, numbers.parts))
+      by_tree trees.Inodes p = half_held t b (omega (arith, p.from)) (omega (arith, p.to, numbers.parts))
 
   -- what is held lies in the half, or outside both
   pub held_apart : (t : Tree) → HasSize m → IsTreeOf m (main_roots s) t → list_all (λ b. nat_le (2 * g.half) b) (outer_blocks m (main_roots s)) ≡ true
@@ -233,9 +235,9 @@ module _ (m : BlockMap) (s : Superblock) (g : Geometry) (which : Which) (of : Is
       outer b among = inr (leb-true (2 * g.half) b (member_passes (λ b. nat_le (2 * g.half) b) (outer_blocks m (main_roots s)) b outside among))
 
       by_owner : (o : Owner) (node : Root) → HasNode m (main_roots s) t o node → Contains (visits_of m node) v → ((first_block g which ≤ v.block) × (v.block < first_block g which + g.half)) ⊎ (2 * g.half ≤ v.block)
-      by_owner OfInodes node has met = inl (root_in_half false v (subst (λ x. Contains (visits_of m x) v) has met))
+      by_owner OfInodes node has met = inl (root_in_half trees.Inodes v (subst (λ x. Contains (visits_of m x) v) has met))
       by_owner OfLongfile node has met = outer v.block (outer_has m (main_roots s) t room is s.longfile v (longfile_outer m (main_roots s) t room is) (subst (λ x. Contains (visits_of m x) v) has met))
-      by_owner (OfFurther zero) node has met = let one : s.bitmap ≡ node = same_Some s.bitmap node has in inl (root_in_half true v (subst (λ x. Contains (visits_of m x) v) (sym one) met))
+      by_owner (OfFurther zero) node has met = let one : s.bitmap ≡ node = same_Some s.bitmap node has in inl (root_in_half trees.Bitmap v (subst (λ x. Contains (visits_of m x) v) (sym one) met))
       by_owner (OfFurther (suc k)) node has met = absurd (cc)
       by_owner (OfInode n) node (e, at, some, root) met = outer v.block (outer_has m (main_roots s) t room is _ v (inode_outer m (main_roots s) t room is n e at some) (subst (λ x. Contains (visits_of m x) v) root met))
 

@@ -6,6 +6,8 @@ use Rattle.std.proofs.lemmas.Bool.{cond-true, lt-ltb}
 use Rattle.std.proofs.lemmas.Nat.{div_below}
 use Rattle.std.proofs.lemmas.Option.{same_Some}
 use Rattle.qx_fields.specs.Number.{field}
+use Rattle.qx_geom.specs.declared.system.SystemTree.{SystemTree}
+use Rattle.qx_geom.specs.declared.system.SystemTree.TheVariants as trees
 use Rattle.qx_geom.proofs.BlockSizes.{block_size-bounds}
 use Rattle.qx_geom.proofs.SystemBlocks.{IsPointerBlock-above}
 use Rattle.qx_geom.proofs.Truths.{and_left}
@@ -44,26 +46,26 @@ use Rattle.qx_view.specs.Walk.{walked_inodes}
 
 module _ (m : BlockMap) (bytes : ℕ → List ℕ) (g : Geometry) (volume : IsGeometry g) (each : m.size ≡ g.blocksize) where
   -- a system tree is as it must be, or not, by the bytes of its pointer blocks
-  system_tree_alike : (which : Which) (bitmap : Bool) → ((b : ℕ) → IsPointerBlock g which bitmap b → m.bytes b ≡ bytes b)
-      → is_system_tree m (tree_base g which bitmap) (tree_leaves g bitmap) ≡ is_system_tree (with_bytes m bytes) (tree_base g which bitmap) (tree_leaves g bitmap)
-  system_tree_alike which bitmap same =
-      all_alike _ _ (each_below (levels_for m.size (tree_leaves g bitmap)) (λ k. k)) (λ k c.
-      all_alike _ _ (each_below (level_count m.size (tree_leaves g bitmap) (suc k)) (λ j. j)) (λ j d.
-      let low : suc k ≤ levels_for m.size (tree_leaves g bitmap) = below_members (levels_for m.size (tree_leaves g bitmap)) k c in
-      let there : j < level_count m.size (tree_leaves g bitmap) (suc k) = below_members (level_count m.size (tree_leaves g bitmap) (suc k)) j d in
-      let pointer : system_pointer m.size (tree_base g which bitmap) (tree_leaves g bitmap) (suc k) j ≡ tree_base g which bitmap + below_level m.size (tree_leaves g bitmap) (suc k) + j = cond-true _ _ _ (lt-ltb j (level_count m.size (tree_leaves g bitmap) (suc k)) there) in
-      let placed : IsTreeBlock g which bitmap (suc k) j (tree_base g which bitmap + below_level m.size (tree_leaves g bitmap) (suc k) + j) = record {
-        level_there = subst (λ z. suc k ≤ levels_for z (tree_leaves g bitmap)) each low;
-        index_there = subst (λ z. j < level_count z (tree_leaves g bitmap) (suc k)) each there;
-        place = ap (λ z. tree_base g which bitmap + below_level z (tree_leaves g bitmap) (suc k) + j) each;
+  system_tree_alike : (which : Which) (tree : SystemTree) → ((b : ℕ) → IsPointerBlock g which tree b → m.bytes b ≡ bytes b)
+      → is_system_tree m (tree_base g which tree) (tree_leaves g tree) ≡ is_system_tree (with_bytes m bytes) (tree_base g which tree) (tree_leaves g tree)
+  system_tree_alike which tree same =
+      all_alike _ _ (each_below (levels_for m.size (tree_leaves g tree)) (λ k. k)) (λ k c.
+      all_alike _ _ (each_below (level_count m.size (tree_leaves g tree) (suc k)) (λ j. j)) (λ j d.
+      let low : suc k ≤ levels_for m.size (tree_leaves g tree) = below_members (levels_for m.size (tree_leaves g tree)) k c in
+      let there : j < level_count m.size (tree_leaves g tree) (suc k) = below_members (level_count m.size (tree_leaves g tree) (suc k)) j d in
+      let pointer : system_pointer m.size (tree_base g which tree) (tree_leaves g tree) (suc k) j ≡ tree_base g which tree + below_level m.size (tree_leaves g tree) (suc k) + j = cond-true _ _ _ (lt-ltb j (level_count m.size (tree_leaves g tree) (suc k)) there) in
+      let placed : IsTreeBlock g which tree (suc k) j (tree_base g which tree + below_level m.size (tree_leaves g tree) (suc k) + j) = record {
+        level_there = subst (λ z. suc k ≤ levels_for z (tree_leaves g tree)) each low;
+        index_there = subst (λ z. j < level_count z (tree_leaves g tree) (suc k)) each there;
+        place = ap (λ z. tree_base g which tree + below_level z (tree_leaves g tree) (suc k) + j) each;
       } in
-      let alike : m.bytes (system_pointer m.size (tree_base g which bitmap) (tree_leaves g bitmap) (suc k) j) ≡ bytes (system_pointer m.size (tree_base g which bitmap) (tree_leaves g bitmap) (suc k) j) =
-      subst (λ b. m.bytes b ≡ bytes b) (sym pointer) (same (tree_base g which bitmap + below_level m.size (tree_leaves g bitmap) (suc k) + j) (IsPointerBlock-above g which bitmap volume (suc k) j _ (omega arith) placed)) in
-      all_alike _ _ (each_below (per_block m.size) (λ w. w)) (λ w e. ap (λ bs. field m.order 4 bs (4 * w) == system_pointer m.size (tree_base g which bitmap) (tree_leaves g bitmap) k (j * per_block m.size + w)) alike)))
+      let alike : m.bytes (system_pointer m.size (tree_base g which tree) (tree_leaves g tree) (suc k) j) ≡ bytes (system_pointer m.size (tree_base g which tree) (tree_leaves g tree) (suc k) j) =
+      subst (λ b. m.bytes b ≡ bytes b) (sym pointer) (same (tree_base g which tree + below_level m.size (tree_leaves g tree) (suc k) + j) (IsPointerBlock-above g which tree volume (suc k) j _ (omega arith) placed)) in
+      all_alike _ _ (each_below (per_block m.size) (λ w. w)) (λ w e. ap (λ bs. field m.order 4 bs (4 * w) == system_pointer m.size (tree_base g which tree) (tree_leaves g tree) k (j * per_block m.size + w)) alike)))
 
   -- so is a half
-  half_alike : (which : Which) → ((bitmap : Bool) (b : ℕ) → IsPointerBlock g which bitmap b → m.bytes b ≡ bytes b) → has_system_trees m g which ≡ has_system_trees (with_bytes m bytes) g which
-  half_alike which same = λ i. system_tree_alike which true (same true) i && system_tree_alike which false (same false) i
+  half_alike : (which : Which) → ((tree : SystemTree) (b : ℕ) → IsPointerBlock g which tree b → m.bytes b ≡ bytes b) → has_system_trees m g which ≡ has_system_trees (with_bytes m bytes) g which
+  half_alike which same = λ i. system_tree_alike which trees.Bitmap (same trees.Bitmap) i && system_tree_alike which trees.Inodes (same trees.Inodes) i
 
 -- ---- the reasons
 
@@ -81,7 +83,7 @@ module _ (m : BlockMap) (bytes : ℕ → List ℕ) (s : Superblock) (t : Tree) (
   reasons_alike g which large leaves halves none =
       let nodes : first_below (fails_nodes m (main_roots s) (walked_inodes m (main_roots s))) (inode_places (main_roots s) + 1) ≡ None = reason_none reasons.Nodes (first_below (fails_nodes m (main_roots s) (walked_inodes m (main_roots s))) (inode_places (main_roots s) + 1)) (each_none (reasons_in m s g which (main_roots s) (outer_blocks m (main_roots s)) (walked_inodes m (main_roots s))) 2 _ none refl) in
       let e2 : (is_laid_out m s g which && list_all (λ b. nat_le (2 * g.half) b) (outer_blocks m (main_roots s))) ≡ (is_laid_out (with_bytes m bytes) s g which && list_all (λ b. nat_le (2 * g.half) b) (outer_blocks m (main_roots s))) =
-      λ i. (is_same_root s.bitmap (system_root_of g which true) && (is_same_root s.inode (system_root_of g which false) && (halves First i && halves Second i))) && list_all (λ b. nat_le (2 * g.half) b) (outer_blocks m (main_roots s)) in
+      λ i. (is_same_root s.bitmap (system_root_of g which trees.Bitmap) && (is_same_root s.inode (system_root_of g which trees.Inodes) && (halves First i && halves Second i))) && list_all (λ b. nat_le (2 * g.half) b) (outer_blocks m (main_roots s)) in
       let bitmap = further_agrees m bytes (main_roots s) t size is held 0 s.bitmap refl (and_left _ _ (and_left _ _ is.further_fit)) in
       let e3 : first_below (bit_differs m s.bitmap g (outer_blocks m (main_roots s))) (g.bitmap_leaves * m.size * 8) ≡ first_below (bit_differs (with_bytes m bytes) s.bitmap g (outer_blocks m (main_roots s))) (g.bitmap_leaves * m.size * 8) =
       first_alike _ _ (g.bitmap_leaves * m.size * 8) (λ b low. bit_alike m bytes (main_roots s) t size is held s.bitmap g (outer_blocks m (main_roots s)) b bitmap
@@ -125,8 +127,8 @@ geometry_there m s which (Some g) e = (g, refl)
 -- images that agree on what the tree holds and on the other half's pointer blocks are sound alike
 sound_local : (img other : List ℕ) (t : Tree) → length other ≡ length img → active_area other ≡ active_area img → active_super other ≡ active_super img
     → ((s : Superblock) → active_super img ≡ Some s → (b : ℕ) → IsHeld (image_blocks img s) (main_roots s) t b → block_bytes img s.blocksize b ≡ block_bytes other s.blocksize b)
-    → ((s : Superblock) (g : Geometry) (which : Which) (bitmap : Bool) → active_super img ≡ Some s → written_geometry s (length img) ≡ Some g → (active_area img ≡ picks.Active which → ⊥)
-    → (b : ℕ) → IsPointerBlock g which bitmap b → block_bytes img s.blocksize b ≡ block_bytes other s.blocksize b)
+    → ((s : Superblock) (g : Geometry) (which : Which) (tree : SystemTree) → active_super img ≡ Some s → written_geometry s (length img) ≡ Some g → (active_area img ≡ picks.Active which → ⊥)
+    → (b : ℕ) → IsPointerBlock g which tree b → block_bytes img s.blocksize b ≡ block_bytes other s.blocksize b)
     → IsSound img t → IsSound other t
 sound_local img other t len area super held pointers sound =
     let g = geometry_there (image_blocks img sound.superblock) sound.superblock sound.area (written_geometry sound.superblock (length img)) sound.no_reason in
@@ -137,9 +139,9 @@ sound_local img other t len area super held pointers sound =
         let p : SoundParts img t sound.area sound.superblock g = sound_parts img t sound.area sound.superblock g sound sound.active sound.names written in
         let own : (b : ℕ) → IsHeld (image_blocks img sound.superblock) (main_roots sound.superblock) t b → block_bytes img sound.superblock.blocksize b ≡ block_bytes other sound.superblock.blocksize b = held sound.superblock sound.names in
         let right = (halves_right (image_blocks img sound.superblock) sound.superblock g sound.area p.none).0 in
-        let words : (h : Which) (bitmap : Bool) (b : ℕ) → IsPointerBlock g h bitmap b → block_bytes img sound.superblock.blocksize b ≡ block_bytes other sound.superblock.blocksize b = λ h bitmap b q. elim (same_area sound.area h) [
-          | inl here ↦ own b (pointer_held (image_blocks img sound.superblock) sound.superblock g sound.area p.geometry refl refl right t bitmap b (subst (λ w. IsPointerBlock g w bitmap b) (sym here) q))
-          | inr apart ↦ pointers sound.superblock g h bitmap sound.names written (λ e. apart (active_one sound.area h (sym sound.active ∙ e))) b q
+        let words : (h : Which) (tree : SystemTree) (b : ℕ) → IsPointerBlock g h tree b → block_bytes img sound.superblock.blocksize b ≡ block_bytes other sound.superblock.blocksize b = λ h tree b q. elim (same_area sound.area h) [
+          | inl here ↦ own b (pointer_held (image_blocks img sound.superblock) sound.superblock g sound.area p.geometry refl refl right t tree b (subst (λ w. IsPointerBlock g w tree b) (sym here) q))
+          | inr apart ↦ pointers sound.superblock g h tree sound.names written (λ e. apart (active_one sound.area h (sym sound.active ∙ e))) b q
         ] in
         let halves : (h : Which) → has_system_trees (image_blocks img sound.superblock) g h ≡ has_system_trees (image_blocks other sound.superblock) g h = λ h. half_alike (image_blocks img sound.superblock) (block_bytes other sound.superblock.blocksize) g p.geometry.volume p.geometry.size h (words h) in
         let bounds = block_size-bounds g.blocksize (IsGeometry-keeps g p.geometry.volume).block_size in
@@ -190,19 +192,19 @@ module _ (m : BlockMap) (bytes : ℕ → List ℕ) (r : Roots) (t : Tree) (size 
 -- where the other image is sound, this one is
 sound_back : (img other : List ℕ) (t : Tree) → length other ≡ length img → active_area other ≡ active_area img → active_super other ≡ active_super img
     → ((s : Superblock) → active_super img ≡ Some s → (b : ℕ) → IsHeld (image_blocks img s) (main_roots s) t b → block_bytes img s.blocksize b ≡ block_bytes other s.blocksize b)
-    → ((s : Superblock) (g : Geometry) (which : Which) (bitmap : Bool) → active_super img ≡ Some s → written_geometry s (length img) ≡ Some g → (active_area img ≡ picks.Active which → ⊥)
-    → (b : ℕ) → IsPointerBlock g which bitmap b → block_bytes img s.blocksize b ≡ block_bytes other s.blocksize b)
+    → ((s : Superblock) (g : Geometry) (which : Which) (tree : SystemTree) → active_super img ≡ Some s → written_geometry s (length img) ≡ Some g → (active_area img ≡ picks.Active which → ⊥)
+    → (b : ℕ) → IsPointerBlock g which tree b → block_bytes img s.blocksize b ≡ block_bytes other s.blocksize b)
     → IsSound other t → IsSound img t
 sound_back img other t len area super held pointers sound = sound_local other img t (sym len) (sym area) (sym super)
     (λ s names b h.
     let tree : IsTreeOf (image_blocks other s) (main_roots s) t = subst (λ x. IsTreeOf (image_blocks other x) (main_roots x) t) (same_Some sound.superblock s (sym sound.names ∙ names)) sound.tree in
     held_back (image_blocks img s) (block_bytes other s.blocksize) (main_roots s) t (HasSize-image_blocks img s (sym super ∙ names)) tree (held s (sym super ∙ names)) b h)
-    (λ s g which bitmap names written apart b p. sym (pointers s g which bitmap (sym super ∙ names) (ap (λ n. written_geometry s n) (sym len) ∙ written) (λ e. apart (area ∙ e)) b p)) sound
+    (λ s g which tree names written apart b p. sym (pointers s g which tree (sym super ∙ names) (ap (λ n. written_geometry s n) (sym len) ∙ written) (λ e. apart (area ∙ e)) b p)) sound
 
 -- so both are sound with one tree, or neither is
 pub sound_together : (img other : List ℕ) (t : Tree) → length other ≡ length img → active_area other ≡ active_area img → active_super other ≡ active_super img
     → ((s : Superblock) → active_super img ≡ Some s → (b : ℕ) → IsHeld (image_blocks img s) (main_roots s) t b → block_bytes img s.blocksize b ≡ block_bytes other s.blocksize b)
-    → ((s : Superblock) (g : Geometry) (which : Which) (bitmap : Bool) → active_super img ≡ Some s → written_geometry s (length img) ≡ Some g → (active_area img ≡ picks.Active which → ⊥)
-    → (b : ℕ) → IsPointerBlock g which bitmap b → block_bytes img s.blocksize b ≡ block_bytes other s.blocksize b)
+    → ((s : Superblock) (g : Geometry) (which : Which) (tree : SystemTree) → active_super img ≡ Some s → written_geometry s (length img) ≡ Some g → (active_area img ≡ picks.Active which → ⊥)
+    → (b : ℕ) → IsPointerBlock g which tree b → block_bytes img s.blocksize b ≡ block_bytes other s.blocksize b)
     → IsSound img t ↔ IsSound other t
 sound_together img other t len area super held pointers = (sound_local img other t len area super held pointers, sound_back img other t len area super held pointers)

@@ -4,6 +4,7 @@ use Rattle.std.specs.Prelude.{Bool, true, false, Some, None, Result, Ok, Err, �
 use Rattle.std.proofs.Math.Nat.{mul-div_cancel}
 use Rattle.std.proofs.lemmas.Bool.{cond-true, eqb-true, lt-ltb}
 use Rattle.std.proofs.lemmas.Option.{same_Some}
+use Rattle.qx_geom.specs.declared.system.SystemTree.TheVariants as trees
 use Rattle.qx_geom.proofs.Truths.{and_left, and_right}
 use Rattle.qx_geom.proofs.VolumeNumbers.{IsGeometry-keeps, geometry_of-numbers}
 use Rattle.qx_geom.specs.Layout.{geometry_of, system_root_of}
@@ -49,6 +50,6 @@ sound_places img t s sound names =
         let own = sound.superblock in
         let p : SoundParts img t sound.area own g = sound_parts img t sound.area own g sound sound.active sound.names written in
         let right : is_laid_out (image_blocks img own) own g sound.area ≡ true = (halves_right (image_blocks img own) own g sound.area p.none).0 in
-        let root = and_left (is_same_root own.inode (system_root_of g sound.area false)) _ (and_right (is_same_root own.bitmap (system_root_of g sound.area true)) _ right) in
+        let root = and_left (is_same_root own.inode (system_root_of g sound.area trees.Inodes)) _ (and_right (is_same_root own.bitmap (system_root_of g sound.area trees.Bitmap)) _ right) in
         let size : own.inode.size ≡ g.num_inodes * 128 = eqb-true own.inode.size (g.num_inodes * 128) (and_left (own.inode.size == g.num_inodes * 128) _ root) in
         p.tree.places ∙ places_of_size own.inode g.num_inodes size (omega (arith, (IsGeometry-keeps g p.geometry.volume).inodes_to)) ∙ sym (written_inodes own (length img) g written)

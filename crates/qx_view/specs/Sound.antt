@@ -2,6 +2,7 @@
 use Rattle.std.specs.Prelude.{◌≡◌, ◌⊎◌, ℕ, zero, suc, ◌+◌, ◌*◌, ◌/◌, ◌%◌, Bool, true, false, not, ◌&&◌, ◌||◌, List, [], ◌∷◌, drop, length, map, flat_map, filter, filter_map, count_by, bytes_eq, Option, Some, None, Result, Ok, Err, nat_le, nat_lt, ◌==◌, if◌then◌else◌, slice_get, slice_index}
 use Rattle.std.specs.List.{list_all}
 use Rattle.std.specs.Int.{bit_at}
+use Rattle.qx_geom.specs.declared.system.SystemTree.TheVariants as trees
 use Rattle.qx_geom.specs.declared.area.Which.{Which}
 use Rattle.qx_geom.specs.declared.area.Which.TheVariants.{First, Second}
 use Rattle.qx_geom.specs.declared.geometry.GeomFault.{GeomFault}
@@ -94,12 +95,12 @@ is_system_tree m base n =
 -- both trees of an area's half are so
 abbrev pub has_system_trees : BlockMap → Geometry → Which → Bool
 has_system_trees m g which =
-    is_system_tree m (tree_base g which true) (tree_leaves g true) && is_system_tree m (tree_base g which false) (tree_leaves g false)
+    is_system_tree m (tree_base g which trees.Bitmap) (tree_leaves g trees.Bitmap) && is_system_tree m (tree_base g which trees.Inodes) (tree_leaves g trees.Inodes)
 
 -- the two root nodes are those of the active area's half, and the pointer blocks of both halves are as they must be
 abbrev pub is_laid_out : BlockMap → Superblock → Geometry → Which → Bool
 is_laid_out m s g which =
-    is_same_root s.bitmap (system_root_of g which true) && (is_same_root s.inode (system_root_of g which false) && (has_system_trees m g First && has_system_trees m g Second))
+    is_same_root s.bitmap (system_root_of g which trees.Bitmap) && (is_same_root s.inode (system_root_of g which trees.Inodes) && (has_system_trees m g First && has_system_trees m g Second))
 
 -- ---- reason 3: the bitmap
 

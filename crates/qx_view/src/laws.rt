@@ -1,5 +1,6 @@
 //! Laws of what an image means.
 ghost use Rattle.std.specs.Prelude.{◌≡◌, ◌⊎◌, ◌↔◌, ◌+◌, ◌*◌, ◌<◌, ◌≤◌, ℕ, Bool, ◌/◌, ◌%◌, IsTrue, List, [], Contains, count_by, flat_map, ◌==◌, length, Some, None};
+ghost use Rattle.qx_geom.specs.declared.system.SystemTree.{SystemTree};
 ghost use Rattle.qx_geom.specs.declared.area.Which.{Which};
 ghost use Rattle.qx_geom.specs.declared.geometry.Geometry.{Geometry};
 ghost use Rattle.qx_geom.specs.Layout.{IsPointerBlock, first_block};
@@ -126,8 +127,8 @@ pub fn what_soundness_depends_on()
         → active_area other ≡ active_area img → active_super other ≡ active_super img
         → ((s : Superblock) → active_super img ≡ Some s → (b : ℕ) → IsHeld (image_blocks img s) (main_roots s) t b
         → block_bytes img s.blocksize b ≡ block_bytes other s.blocksize b)
-        → ((s : Superblock) (g : Geometry) (which : Which) (bitmap : Bool) → active_super img ≡ Some s
+        → ((s : Superblock) (g : Geometry) (which : Which) (tree : SystemTree) → active_super img ≡ Some s
         → written_geometry s (length img) ≡ Some g → ¬ (active_area img ≡ picks.Active which)
-        → (b : ℕ) → IsPointerBlock g which bitmap b → block_bytes img s.blocksize b ≡ block_bytes other s.blocksize b)
+        → (b : ℕ) → IsPointerBlock g which tree b → block_bytes img s.blocksize b ≡ block_bytes other s.blocksize b)
         → IsSound img t ↔ IsSound other t }
 {}

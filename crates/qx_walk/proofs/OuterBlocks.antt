@@ -7,6 +7,8 @@ use Rattle.std.proofs.lemmas.List.FromFn.{get_or-map-range_with_len, length-map-
 use Rattle.std.proofs.lemmas.List.Sums.{sum_by-cons}
 use Rattle.std.proofs.Math.Bool.{or-true}
 use Rattle.qx_blockset.specs.Members.{Members, count_of, limit_of}
+use Rattle.qx_geom.specs.declared.system.SystemTree.{SystemTree}
+use Rattle.qx_geom.specs.declared.system.SystemTree.TheVariants as trees
 use Rattle.qx_geom.proofs.ImagesAndFilters.{Contains-in, in_Contains, Contains-image}
 use Rattle.qx_geom.proofs.Members.{in_cases, in_head, in_left, in_right, in_tail, is_in-append}
 use Rattle.qx_geom.proofs.Truths.{and_left, and_right, not_so, not_true, or_left, or_right, true_or_false}
@@ -233,14 +235,14 @@ module _ (m : BlockMap) (s : Superblock) (room : HasSize m) (none : finding_of m
     system_in_half : (b : ℕ) → (is_in inode_blocks b || is_in bitmap_blocks b) ≡ true → (first_block g which ≤ b) × (b < first_block g which + g.half)
     system_in_half b h = go (is_in inode_blocks b) (is_in bitmap_blocks b) refl refl h
       where
-        at : (bitmap : Bool) → is_in (blocks_of m (root_of_half s bitmap)) b ≡ true → (first_block g which ≤ b) × (b < first_block g which + g.half)
-        at bitmap t =
-            let v : (v : Visit) × Contains (visits_of m (root_of_half s bitmap)) v × (v.block ≡ b) = Contains-image (λ v. v.block) (visits_of m (root_of_half s bitmap)) b (Contains-in (blocks_of m (root_of_half s bitmap)) b t) in
-            subst (λ z. (first_block g which ≤ z) × (z < first_block g which + g.half)) v.2 (root_in_half m s g which of size count right bitmap v.0 v.1)
+        at : (tree : SystemTree) → is_in (blocks_of m (root_of_half s tree)) b ≡ true → (first_block g which ≤ b) × (b < first_block g which + g.half)
+        at tree t =
+            let v : (v : Visit) × Contains (visits_of m (root_of_half s tree)) v × (v.block ≡ b) = Contains-image (λ v. v.block) (visits_of m (root_of_half s tree)) b (Contains-in (blocks_of m (root_of_half s tree)) b t) in
+            subst (λ z. (first_block g which ≤ z) × (z < first_block g which + g.half)) v.2 (root_in_half m s g which of size count right tree v.0 v.1)
 
         go : (p q : Bool) → is_in inode_blocks b ≡ p → is_in bitmap_blocks b ≡ q → (p || q) ≡ true → (first_block g which ≤ b) × (b < first_block g which + g.half)
-        go true q e f h = at false e
-        go false true e f h = at true f
+        go true q e f h = at trees.Inodes e
+        go false true e f h = at trees.Bitmap f
         go false false e f h = absurd (cc)
 
     -- and each block of the active half is one of a system tree
@@ -249,12 +251,12 @@ module _ (m : BlockMap) (s : Superblock) (room : HasSize m) (none : finding_of m
         let tree = half_is_trees m s g which of size count right b low high in
         by_tree tree.0 (root_meets m s g which of size count right tree.0 b tree.1)
       where
-        at : (bitmap : Bool) → (v : Visit) × Contains (visits_of m (root_of_half s bitmap)) v × (v.block ≡ b) → is_in (blocks_of m (root_of_half s bitmap)) b ≡ true
-        at bitmap v = in_Contains (blocks_of m (root_of_half s bitmap)) b (subst (λ z. Contains (blocks_of m (root_of_half s bitmap)) z) v.2 (members_map (λ v. v.block) (visits_of m (root_of_half s bitmap)) v.0 v.1))
+        at : (tree : SystemTree) → (v : Visit) × Contains (visits_of m (root_of_half s tree)) v × (v.block ≡ b) → is_in (blocks_of m (root_of_half s tree)) b ≡ true
+        at tree v = in_Contains (blocks_of m (root_of_half s tree)) b (subst (λ z. Contains (blocks_of m (root_of_half s tree)) z) v.2 (members_map (λ v. v.block) (visits_of m (root_of_half s tree)) v.0 v.1))
 
-        by_tree : (bitmap : Bool) → (v : Visit) × Contains (visits_of m (root_of_half s bitmap)) v × (v.block ≡ b) → (is_in inode_blocks b || is_in bitmap_blocks b) ≡ true
-        by_tree true v = ap (λ t. is_in inode_blocks b || t) (at true v) ∙ or-true (is_in inode_blocks b)
-        by_tree false v = ap (λ t. t || is_in bitmap_blocks b) (at false v)
+        by_tree : (tree : SystemTree) → (v : Visit) × Contains (visits_of m (root_of_half s tree)) v × (v.block ≡ b) → (is_in inode_blocks b || is_in bitmap_blocks b) ≡ true
+        by_tree trees.Bitmap v = ap (λ t. is_in inode_blocks b || t) (at trees.Bitmap v) ∙ or-true (is_in inode_blocks b)
+        by_tree trees.Inodes v = ap (λ t. t || is_in bitmap_blocks b) (at trees.Inodes v)
 
     -- outside the active half those met are the outer blocks
     pub outer_outside : (b : ℕ) → (b < first_block g which) ⊎ (first_block g which + g.half ≤ b) → is_in (outer_blocks m r) b ≡ is_in (met_blocks m r) b

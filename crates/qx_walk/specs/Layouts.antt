@@ -4,6 +4,7 @@ use Rattle.std.specs.List.{list_all, list_any, range_with_len}
 use Rattle.qx_blockset.specs.Members.{Members, count_of, has}
 use Rattle.qx_fields.specs.declared.order.Order.{Order}
 use Rattle.qx_fields.specs.Number.{field}
+use Rattle.qx_geom.specs.declared.system.SystemTree.{SystemTree}
 use Rattle.qx_geom.specs.declared.area.Which.{Which}
 use Rattle.qx_geom.specs.declared.geometry.Geometry.{Geometry}
 use Rattle.qx_geom.specs.Area.{other_area}
@@ -40,9 +41,9 @@ pub record IsVolumeOf (shape : Shape) (g : Geometry) : Type 0 where
 -- ---- the halves
 
 -- the bytes of a pointer block have the words that they must have
-abbrev pub are_words_of : Geometry → Which → Bool → ℕ → Order → List ℕ → Bool
-are_words_of g which bitmap block order bytes =
-    list_all (λ w. field order 4 bytes (4 * w) == system_word_of g which bitmap block w) (each_below (per_block g.blocksize) (λ w. w))
+abbrev pub are_words_of : Geometry → Which → SystemTree → ℕ → Order → List ℕ → Bool
+are_words_of g which tree block order bytes =
+    list_all (λ w. field order 4 bytes (4 * w) == system_word_of g which tree block w) (each_below (per_block g.blocksize) (λ w. w))
 
 -- a block of an area's half was met
 abbrev pub has_block_of_half : Geometry → Which → Members → Bool

@@ -11,7 +11,6 @@ ghost use Rattle.qx_walk.specs.Bitmaps.{is_wanted, is_wrong_bit, is_wrong_in, Is
 ghost use Rattle.qx_pointers.specs.Shown.{Fits, JustReads, Shows};
 ghost use Rattle.qx_view.specs.declared.findings.Finding.{Finding};
 
-use crate::halves::first_of_half;
 use qx_blockset::BlockSet;
 use qx_geom::{Geometry, Which};
 use qx_outside::Dev;
@@ -35,7 +34,7 @@ pub(crate) fn first_wrong_bit<D: Dev>(
     ensures cause { IsCaused (D.outside host.old).dev_faults (D.outside host.new).dev_faults result }
     ensures no_finding { (f : Option Finding) → IfErr result (HaltsAt f) }
 {
-    let first = first_of_half(geometry, which);
+    let first = geometry.first_block(which);
     for leaf in 0..geometry.bitmap_leaves {
         let begin = u64::from(leaf) * u64::from(shape.blocksize);
         if let Some(at) = first_wrong_in_leaf(host, shape, geometry, met, first + leaf, begin)? {

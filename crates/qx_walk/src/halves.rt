@@ -1,7 +1,7 @@
 //! Whether both halves of the system blocks are as this project writes them.
 ghost use Rattle.std.specs.Prelude.{◌≡◌, ◌+◌, ◌≤◌, IfOk, length, IfErr, Option};
 ghost use Rattle.qx_blockset.specs.Members.{limit_of};
-ghost use Rattle.qx_geom.specs.Layout.{IsGeometry, IsPointerBlock, first_block, tree_base, tree_leaves, tree_pointers};
+ghost use Rattle.qx_geom.specs.Layout.{IsGeometry, IsPointerBlock, tree_base, tree_leaves};
 ghost use Rattle.qx_nodes.specs.BlockMap.{BlockMap};
 ghost use Rattle.qx_view.specs.declared.findings.Finding.{Finding};
 ghost use Rattle.qx_view.specs.Sound.{has_system_trees, is_system_tree};
@@ -11,7 +11,7 @@ ghost use Rattle.qx_pointers.specs.Shown.{Fits, JustReads, Shows};
 
 use qx_blockset::BlockSet;
 use qx_fields::{Order, get32};
-use qx_geom::{Geometry, Which};
+use qx_geom::{Geometry, SystemTree, Which};
 use qx_outside::Dev;
 use qx_pointers::{Halt, Shape, read_block};
 use qx_super::{RootName, SuperView};
@@ -34,8 +34,8 @@ pub(crate) fn is_laid_out<D: Dev>(
     ensures cause { IsCaused (D.outside host.old).dev_faults (D.outside host.new).dev_faults result }
     ensures no_finding { (f : Option Finding) → IfErr result (HaltsAt f) }
 {
-    if view.root(RootName::Bitmap) != geometry.system_root(which, true)
-        || view.root(RootName::Inode) != geometry.system_root(which, false)
+    if view.root(RootName::Bitmap) != geometry.tree_root(which, SystemTree::Bitmap)
+        || view.root(RootName::Inode) != geometry.tree_root(which, SystemTree::Inodes)
     {
         return Ok(false);
     }
@@ -62,10 +62,10 @@ fn has_system_trees<D: Dev>(
     ensures cause { IsCaused (D.outside host.old).dev_faults (D.outside host.new).dev_faults result }
     ensures no_finding { (f : Option Finding) → IfErr result (HaltsAt f) }
 {
-    if !has_system_words(host, shape, geometry, which, true)? {
+    if !has_system_words(host, shape, geometry, which, SystemTree::Bitmap)? {
         return Ok(false);
     }
-    has_system_words(host, shape, geometry, which, false)
+    has_system_words(host, shape, geometry, which, SystemTree::Inodes)
 }
 
 /// Whether the pointer blocks of a half's tree are as they must be.
@@ -74,20 +74,20 @@ fn has_system_words<D: Dev>(
     shape: Shape,
     geometry: &Geometry,
     which: Which,
-    bitmap: bool,
+    tree: SystemTree,
 ) -> Result<bool, Halt>
     requires volume { IsVolumeOf shape geometry.now }
     requires fits { Fits shape (D.outside host.old) }
     ensures words { (m : BlockMap) → Shows shape (D.outside host.new) m
-        → IfOk result (λ right. right ≡ is_system_tree m (tree_base geometry.now which bitmap) (tree_leaves geometry.now bitmap)) }
+        → IfOk result (λ right. right ≡ is_system_tree m (tree_base geometry.now which tree) (tree_leaves geometry.now tree)) }
     ensures fits { Fits shape (D.outside host.new) }
     ensures reads { JustReads (D.outside host.old) (D.outside host.new) }
     ensures cause { IsCaused (D.outside host.old).dev_faults (D.outside host.new).dev_faults result }
     ensures no_finding { (f : Option Finding) → IfErr result (HaltsAt f) }
 {
-    let (first, behind) = pointer_blocks(geometry, which, bitmap);
-    for block in first..behind {
-        if !has_right_words(host, shape, geometry, which, bitmap, block)? {
+    let blocks = geometry.pointer_blocks(which, tree);
+    for block in blocks.start..blocks.end {
+        if !has_right_words(host, shape, geometry, which, tree, block)? {
             return Ok(false);
         }
     }
@@ -100,14 +100,14 @@ fn has_right_words<D: Dev>(
     shape: Shape,
     geometry: &Geometry,
     which: Which,
-    bitmap: bool,
+    tree: SystemTree,
     block: u32,
 ) -> Result<bool, Halt>
     requires volume { IsVolumeOf shape geometry.now }
-    requires block { IsPointerBlock geometry.now which bitmap block }
+    requires block { IsPointerBlock geometry.now which tree block }
     requires fits { Fits shape (D.outside host.old) }
     ensures words { (m : BlockMap) → Shows shape (D.outside host.new) m
-        → IfOk result (λ right. right ≡ are_words_of geometry.now which bitmap block m.order (m.bytes block)) }
+        → IfOk result (λ right. right ≡ are_words_of geometry.now which tree block m.order (m.bytes block)) }
     ensures fits { Fits shape (D.outside host.new) }
     ensures reads { JustReads (D.outside host.old) (D.outside host.new) }
     ensures cause { IsCaused (D.outside host.old).dev_faults (D.outside host.new).dev_faults result }
@@ -116,55 +116,25 @@ fn has_right_words<D: Dev>(
     let mut buffer = [0; 4096];
     let bytes = &mut buffer[0..shape.blocksize as usize];
     read_block(host, shape, block, bytes)?;
-    Ok(are_words_of(geometry, which, bitmap, block, shape.order, bytes))
-}
-
-/// The first pointer block of a half's tree, and the block behind the last.
-fn pointer_blocks(geometry: &Geometry, which: Which, bitmap: bool) -> (u32, u32)
-    requires { IsGeometry geometry.now }
-    ensures first { result.0 ≡ tree_base geometry.now which bitmap + tree_leaves geometry.now bitmap }
-    ensures behind { result.1 ≡ result.0 + tree_pointers geometry.now bitmap }
-    ensures room { result.1 ≤ geometry.now.num_blocks }
-{
-    let bitmaps = first_of_half(geometry, which) + geometry.bitmap_leaves;
-    let bitmap_end = bitmaps + geometry.bitmap_pointers;
-    if bitmap {
-        return (bitmaps, bitmap_end);
-    }
-    let inodes = bitmap_end + geometry.inode_leaves;
-    (inodes, inodes + geometry.inode_pointers)
-}
-
-/// The first block of an area's half.
-pub(crate) fn first_of_half(geometry: &Geometry, which: Which) -> u32
-    requires { IsGeometry geometry.now }
-    ensures first { result ≡ first_block geometry.now which }
-    ensures room { result + geometry.now.half ≤ geometry.now.num_blocks }
-{
-    match which {
-        Which::First => 0,
-        Which::Second => geometry.half,
-    }
+    Ok(are_words_of(geometry, which, tree, block, shape.order, bytes))
 }
 
 /// Whether the words of a pointer block are as they must be.
 fn are_words_of(
     geometry: &Geometry,
     which: Which,
-    bitmap: bool,
+    tree: SystemTree,
     block: u32,
     order: Order,
     bytes: &[u8],
 ) -> bool
     requires geometry { IsGeometry geometry.now }
-    requires block { IsPointerBlock geometry.now which bitmap block }
+    requires block { IsPointerBlock geometry.now which tree block }
     requires long { length bytes.now ≡ geometry.now.blocksize }
-    ensures { result ≡ are_words_of geometry.now which bitmap block order bytes.now }
+    ensures { result ≡ are_words_of geometry.now which tree block order bytes.now }
 {
     for word in 0..geometry.blocksize / 4 {
-        if get32(order, bytes, word as usize * 4)
-            != geometry.system_word(which, bitmap, block, word)
-        {
+        if get32(order, bytes, word as usize * 4) != geometry.tree_word(which, tree, block, word) {
             return false;
         }
     }
@@ -177,7 +147,7 @@ fn has_block_of_half(geometry: &Geometry, which: Which, met: &BlockSet) -> bool
     requires met { limit_of met.now ≡ geometry.now.num_blocks }
     ensures { result ≡ has_block_of_half geometry.now which met.now }
 {
-    let first = first_of_half(geometry, which);
+    let first = geometry.first_block(which);
     for block in first..first + geometry.half {
         if met.has(block) {
             return true;

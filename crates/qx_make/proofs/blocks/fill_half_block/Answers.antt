@@ -6,13 +6,13 @@ pub overflow_add-bitmap_blocks : goal.overflow_add-bitmap_blocks
 overflow_add-bitmap_blocks c = let v = IsGeometry-keeps c.args.volume.now.geometry c.requires.geometry in record { fits = omega (arith, v.room, v.blocks_to, v.parts) }
 
 pub overflow_add-first : goal.overflow_add-first
-overflow_add-first c = let v = IsGeometry-keeps c.args.volume.now.geometry c.requires.geometry in record { fits = omega (arith, v.room, v.blocks_to, v.parts, c.first_of_half-first.ensures, first_block-le c.args.volume.now.geometry c.args.which) }
+overflow_add-first c = let v = IsGeometry-keeps c.args.volume.now.geometry c.requires.geometry in record { fits = omega (arith, v.room, v.blocks_to, v.parts, c.first_block-first.ensures.first, first_block-le c.args.volume.now.geometry c.args.which) }
 
 pub overflow_add-bitmap_blocks-else-index-bitmap_blocks : goal.overflow_add-bitmap_blocks-else-index-bitmap_blocks
 overflow_add-bitmap_blocks-else-index-bitmap_blocks c = let v = IsGeometry-keeps c.args.volume.now.geometry c.requires.geometry in record { fits = omega (arith, v.room, v.blocks_to, v.parts) }
 
 pub overflow_add-first-else-index-bitmap_blocks-2 : goal.overflow_add-first-else-index-bitmap_blocks-2
-overflow_add-first-else-index-bitmap_blocks-2 c = let v = IsGeometry-keeps c.args.volume.now.geometry c.requires.geometry in record { fits = omega (arith, v.room, v.blocks_to, v.parts, c.first_of_half-first.ensures, first_block-le c.args.volume.now.geometry c.args.which) }
+overflow_add-first-else-index-bitmap_blocks-2 c = let v = IsGeometry-keeps c.args.volume.now.geometry c.requires.geometry in record { fits = omega (arith, v.room, v.blocks_to, v.parts, c.first_block-first.ensures.first, first_block-le c.args.volume.now.geometry c.args.which) }
 
 pub fill_pointer_block-requires-else-index-bitmap_blocks-2-clause-block : goal.fill_pointer_block-requires-else-index-bitmap_blocks-2-clause-block
-fill_pointer_block-requires-else-index-bitmap_blocks-2-clause-block c = let v = IsGeometry-keeps c.args.volume.now.geometry c.requires.geometry in record { from = omega (arith, v.parts, c.first_of_half-first.ensures); to = omega (arith, v.parts, c.requires.index, c.first_of_half-first.ensures) }
+fill_pointer_block-requires-else-index-bitmap_blocks-2-clause-block c = let v = IsGeometry-keeps c.args.volume.now.geometry c.requires.geometry in record { from = omega (arith, v.parts, c.first_block-first.ensures.first); to = omega (arith, v.parts, c.requires.index, c.first_block-first.ensures.first) }

@@ -15,13 +15,13 @@ unfolding put_field
 loop-word-preserved c =
     let g = c.args.geometry.now in
     let word = c.loop-word.word in
-    let words = λ (w : ℕ). digits c.args.order 4 (system_word_of g c.args.which c.args.bitmap c.args.block w) in
+    let words = λ (w : ℕ). digits c.args.order 4 (system_word_of g c.args.which c.args.tree c.args.block w) in
     let next : 4 * (word + 1) ≡ 4 * word + 4 = omega arith in
-    let put : take (4 * word + 4) c.put32.new.into ≡ take (4 * word) c.loop-word.into ++ digits c.args.order 4 c.system_word-pointer.result =
-    ap (λ (l : List ℕ). take (4 * word + 4) l) c.put32.ensures ∙ take_put c.loop-word.into (digits c.args.order 4 c.system_word-pointer.result) (4 * word) 4 (omega arith) (length_digits c.args.order 4 c.system_word-pointer.result) in
+    let put : take (4 * word + 4) c.put32.new.into ≡ take (4 * word) c.loop-word.into ++ digits c.args.order 4 c.tree_word-pointer.result =
+    ap (λ (l : List ℕ). take (4 * word + 4) l) c.put32.ensures ∙ take_put c.loop-word.into (digits c.args.order 4 c.tree_word-pointer.result) (4 * word) 4 (omega arith) (length_digits c.args.order 4 c.tree_word-pointer.result) in
     ap (λ (n : ℕ). take n c.put32.new.into) next ∙ put
-    ∙ ap (λ (l : List ℕ). l ++ digits c.args.order 4 c.system_word-pointer.result) c.loop-word.invariant
-    ∙ ap (λ (x : ℕ). flat_map words (range_with_len 0 word) ++ digits c.args.order 4 x) c.system_word-pointer.ensures
+    ∙ ap (λ (l : List ℕ). l ++ digits c.args.order 4 c.tree_word-pointer.result) c.loop-word.invariant
+    ∙ ap (λ (x : ℕ). flat_map words (range_with_len 0 word) ++ digits c.args.order 4 x) c.tree_word-pointer.ensures
     ∙ ap (λ (k : ℕ). flat_map words (range_with_len 0 word) ++ words k) (let e : word ≡ 0 + word = omega arith in e)
     ∙ sym (parts_more words 0 word)
 
@@ -29,7 +29,7 @@ pub returns : goal.returns
 unfolding pointer_block_bytes
 returns c =
     let g = c.args.geometry.now in
-    let words = λ (w : ℕ). digits c.args.order 4 (system_word_of g c.args.which c.args.bitmap c.args.block w) in
+    let words = λ (w : ℕ). digits c.args.order 4 (system_word_of g c.args.which c.args.tree c.args.block w) in
     let end : c.loop-word.word ≡ g.blocksize / 4 = omega arith in
     let all : 4 * c.loop-word.word ≡ length c.loop-word.into = omega (arith, end, c.requires.into, block_size-words g.blocksize (IsGeometry-keeps g c.requires.geometry).block_size) in
     sym (ap (λ (n : ℕ). take n c.loop-word.into) all ∙ take-length c.loop-word.into) ∙ c.loop-word.invariant ∙ ap (λ (n : ℕ). flat_map words (range_with_len 0 n)) end

@@ -5,4 +5,4 @@ use Rattle.qx_geom.specs.Layout.{system_word_of}
 use Rattle.qx_walk.proofs.halves.are_words_of.Given as goal
 
 abbrev pub invariant-loop-word : goal.invariant-loop-word
-invariant-loop-word l = (w : ℕ) → w < l.word → (field l.order 4 l.bytes (4 * w) == system_word_of l.geometry l.which l.bitmap l.block w) ≡ true
+invariant-loop-word l = (w : ℕ) → w < l.word → (field l.order 4 l.bytes (4 * w) == system_word_of l.geometry l.which l.tree l.block w) ≡ true

@@ -10,5 +10,5 @@ invariant-loop-block g l = record {
   reads : JustReads (g.D.Dev.outside l.fn.host) (g.D.Dev.outside l.host);
   fits : Fits l.shape (g.D.Dev.outside l.host);
   faults : (g.D.Dev.outside l.host).dev_faults ≡ (g.D.Dev.outside l.fn.host).dev_faults;
-  words : (m : BlockMap) → Shows l.shape (g.D.Dev.outside l.host) m → (b : ℕ) → IsPointerBlock l.geometry l.which l.bitmap b → b < l.block → are_words_of l.geometry l.which l.bitmap b m.order (m.bytes b) ≡ true;
+  words : (m : BlockMap) → Shows l.shape (g.D.Dev.outside l.host) m → (b : ℕ) → IsPointerBlock l.geometry l.which l.tree b → b < l.block → are_words_of l.geometry l.which l.tree b m.order (m.bytes b) ≡ true;
 }

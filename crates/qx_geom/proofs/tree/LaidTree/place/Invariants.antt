@@ -1,6 +1,6 @@
 use Rattle.std.proofs.Common.{◌≡◌, ◌+◌}
 use Rattle.qx_geom.specs.Layout.{below_level}
-use Rattle.qx_geom.proofs.tree.SystemTree.place.Given as goal
+use Rattle.qx_geom.proofs.tree.LaidTree.place.Given as goal
 
 -- the block, counted over the whole tree
 abbrev pub invariant-loop-level : goal.invariant-loop-level

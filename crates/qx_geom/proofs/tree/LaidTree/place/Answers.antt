@@ -1,7 +1,7 @@
 use Rattle.std.proofs.Common.{◌≡◌, ◌≤◌, ℕ, sym, ap, arith}
 use Rattle.qx_geom.specs.Layout.{below_level, levels_for}
 use Rattle.qx_geom.proofs.LevelCounts.{levels_for-some, level_count-last, index-within, pointer_place-is, pointer_place-last}
-use Rattle.qx_geom.proofs.tree.SystemTree.place.Goals as goal
+use Rattle.qx_geom.proofs.tree.LaidTree.place.Goals as goal
 
 -- a lower level has the block
 pub returns-then-index-count-clause-place : goal.returns-then-index-count-clause-place

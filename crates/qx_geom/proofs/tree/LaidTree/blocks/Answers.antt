@@ -1,7 +1,7 @@
 use Rattle.std.proofs.Common.{◌+◌, ◌∙◌, ap, arith, suc, ℕ, add-one}
 use Rattle.qx_geom.specs.Layout.{below_level, tree_blocks}
 use Rattle.qx_geom.proofs.LevelCounts.{below_level-le}
-use Rattle.qx_geom.proofs.tree.SystemTree.blocks.Goals as goal
+use Rattle.qx_geom.proofs.tree.LaidTree.blocks.Goals as goal
 
 pub returns-clause-blocks : goal.returns-clause-blocks
 unfolding tree_blocks

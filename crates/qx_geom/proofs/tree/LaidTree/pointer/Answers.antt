@@ -1,7 +1,7 @@
 use Rattle.std.proofs.Common.{arith}
 use Rattle.qx_geom.proofs.LeastLevels.{levels_for-two}
 use Rattle.qx_geom.proofs.LevelCounts.{level-within}
-use Rattle.qx_geom.proofs.tree.SystemTree.pointer.Goals as goal
+use Rattle.qx_geom.proofs.tree.LaidTree.pointer.Goals as goal
 
 pub count-requires : goal.count-requires
 count-requires c = omega (arith, levels_for-two c.args.self.blocksize c.args.self.leaves c.args.self.block_size c.args.self.few)

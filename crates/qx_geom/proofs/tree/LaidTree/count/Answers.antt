@@ -1,7 +1,7 @@
 use Rattle.std.proofs.Common.{◌<◌, arith}
 use Rattle.qx_geom.proofs.BlockSizes.{power_pos, power-fits}
 use Rattle.qx_geom.proofs.LevelCounts.{ceil_div-is}
-use Rattle.qx_geom.proofs.tree.SystemTree.count.Goals as goal
+use Rattle.qx_geom.proofs.tree.LaidTree.count.Goals as goal
 
 pub pow-reached-requires : goal.pow-reached-requires
 pow-reached-requires c = power-fits c.args.self.blocksize c.from.result c.args.self.block_size (omega arith)

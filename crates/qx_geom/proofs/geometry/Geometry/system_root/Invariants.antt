@@ -1,7 +1,0 @@
-use Rattle.std.proofs.Common.{◌≡◌, ◌<◌, ℕ, get_or}
-use Rattle.qx_geom.specs.Layout.{system_pointer}
-use Rattle.qx_geom.proofs.geometry.Geometry.system_root.Given as goal
-
--- the pointers so far are the root node's
-abbrev pub invariant-loop-index : goal.invariant-loop-index
-invariant-loop-index l = (k : ℕ) → k < l.index → get_or l.pointer-items k 0 ≡ system_pointer l.tree.blocksize l.base l.tree.leaves l.levels k
