@@ -91,7 +91,9 @@ fn device_of(
 /// What the areas of a device name.
 fn pick_on<D: Dev>(device: &mut D) -> Result<Pick, Failed> {
     let len = device.len()?;
-    areas(device, len, &mut [0; 512], &mut [0; 512])
+    let (mut first, mut second) = ([0; 512], [0; 512]);
+    let areas = areas(device, len, &mut first, &mut second)?;
+    Ok(areas.pick())
 }
 
 /// Whether the second superblock counts on a device of that length.

@@ -7,11 +7,7 @@ use Rattle.qx_outside.specs.Puts.{IsAtRest}
 use Rattle.qx_outside.specs.Outside.{Outside}
 use Rattle.qx_outside.specs.Trail.{History, bytes_of, others_of}
 use Rattle.qx_outside.proofs.Throughout.{throughout_here}
-use Rattle.qx_super.specs.declared.choice.Pick.{Pick}
-use Rattle.qx_super.specs.Superblock.{Superblock}
-use Rattle.qx_super.specs.Active.{AreRead, active_area, active_super, first_read, first_super, pick_of, second_read, second_super, super_of_pick}
-use Rattle.qx_super.proofs.ActiveAreas.{first_read-is, pick_of-read_at, second_read-is}
-use Rattle.qx_make.specs.Stages.{IsInStage, PerformsAll, Stage, old_places, old_stages, places_by, rest_stage, zero_stage, zero_stages, zeroed}
+use Rattle.qx_make.specs.Stages.{IsInStage, PerformsAll, Stage, old_places, old_stages, rest_stage, zero_stage, zero_stages, zeroed}
 use Rattle.qx_make.proofs.StagesInOrder.{on_err, rest_in}
 
 -- the stage with which they begin
@@ -22,21 +18,6 @@ begins old (place ∷ places) = (zero_stage old place, (0, omega arith, refl), r
 -- at rest with these bytes is one of their stages
 pub old_rest_in : (old : List ℕ) (h : History) → IsAtRest old h → IsInStage (old_stages old) h
 old_rest_in old h rest = let first = begins old (old_places old) in rest_in (old_stages old) first.0 old h first.1 first.2 rest
-
--- the places of what was read are those of the device's bytes
-pub old_places-read : (img first second : List ℕ) (len : ℕ) (pick : Pick) (active : Option Superblock) → len ≡ length img → AreRead img first second → pick ≡ pick_of (first_read first len) (second_read first second len)
-    → active ≡ super_of_pick pick (first_read first len) (second_read first second len) → places_by pick active ≡ old_places img
-unfolding active_super
-old_places-read img first second len pick active long read picked is =
-    let area : pick ≡ active_area img = picked ∙ pick_of-read_at img first second len long read in
-    let firsts : first_read first len ≡ first_super img = ap (λ (n : ℕ). first_read first n) long ∙ first_read-is img first second read in
-    let seconds : second_read first second len ≡ second_super img = ap (λ (n : ℕ). second_read first second n) long ∙ second_read-is img first second read in
-    let by_area : pick ≡ pick_of (first_super img) (second_super img) = picked ∙ ap (λ (s : Option Superblock). pick_of s (second_read first second len)) firsts ∙ ap (λ (s : Option Superblock). pick_of (first_super img) s) seconds in
-    let super : active ≡ active_super img =
-    is ∙ ap (λ (p : Pick). super_of_pick p (first_read first len) (second_read first second len)) by_area
-    ∙ ap (λ (s : Option Superblock). super_of_pick (pick_of (first_super img) (second_super img)) s (second_read first second len)) firsts
-    ∙ ap (λ (s : Option Superblock). super_of_pick (pick_of (first_super img) (second_super img)) (first_super img) s) seconds in
-    ap (λ (p : Pick). places_by p active) area ∙ ap (λ (s : Option Superblock). places_by (active_area img) s) super
 
 module _ {T E : Type 0} where
   -- a read that fails

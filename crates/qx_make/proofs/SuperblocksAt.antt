@@ -7,8 +7,8 @@ use Rattle.qx_geom.specs.declared.area.Which.TheVariants.{First, Second}
 use Rattle.qx_super.specs.declared.choice.Pick.TheVariants as picks
 use Rattle.qx_super.specs.Superblock.{Superblock, has_right_checksum, second_place_of, superblock_of}
 use Rattle.qx_super.specs.declared.superblock.SuperFault.{SuperFault}
-use Rattle.qx_super.specs.Active.{active_area, active_super, area_at, first_super, is_same_volume, only_at, pick_of, second_search, second_super, searched_place, super_of_pick, valid_area}
-use Rattle.qx_super.proofs.ActiveAreas.{active-none, superblock_of-zeros}
+use Rattle.qx_super.specs.Active.{active_area, active_super, area_at, first_super, only_at, pick_of, second_search, second_super, searched_place, super_of_pick, valid_area}
+use Rattle.qx_super.proofs.ActiveAreas.{active-none, superblock_of-zeros, none_picked}
 use Rattle.qx_super.proofs.SuperblockTests.{superblock_of-wrong}
 use Rattle.qx_super.proofs.ValidSuperblocks.{ok_of}
 use Rattle.qx_make.specs.Cut.{last_place}
@@ -133,19 +133,6 @@ active-same img other first second = (
   ap (λ (a : Option Superblock). super_of_pick (pick_of a (second_super img)) a (second_super img)) first
       ∙ ap (λ (b : Option Superblock). super_of_pick (pick_of (first_super other) b) (first_super other) b) second,
 )
-
--- a choice between two that are there is one of them, or they disagree
-both_picked : (same later : Bool) → (if same then (if later then picks.Active Second else picks.Active First) else picks.Disagree) ≡ picks.None → ⊥
-both_picked true true e = absurd (cc e)
-both_picked true false e = absurd (cc e)
-both_picked false later e = absurd (cc e)
-
--- nothing is picked only where neither is there
-none_picked : (a b : Option Superblock) → pick_of a b ≡ picks.None → (a ≡ None) × (b ≡ None)
-none_picked None None e = (refl, refl)
-none_picked (Some a) None e = absurd (cc e)
-none_picked None (Some b) e = absurd (cc e)
-none_picked (Some a) (Some b) e = absurd (both_picked (is_same_volume a b) (nat_lt a.serial b.serial) e)
 
 -- with no active area there are none
 pub none_there : (img : List ℕ) → active_area img ≡ picks.None → (super_at img 0x2000 ≡ None) × (second_super img ≡ None)

@@ -10,11 +10,12 @@ use Rattle.qx_geom.specs.declared.area.Which.TheVariants.{First, Second}
 use Rattle.qx_geom.specs.declared.geometry.Geometry.{Geometry}
 use Rattle.qx_geom.specs.Layout.{area_place, geometry_of}
 use Rattle.qx_model.specs.Tree.{Tree}
+use Rattle.qx_super.proofs.ActiveAreas.{active_area-chosen, active_super-chosen, chosen_active, chosen_none}
 use Rattle.qx_super.specs.declared.choice.Pick.{Pick}
 use Rattle.qx_super.specs.declared.choice.Pick.TheVariants as picks
 use Rattle.qx_super.specs.Superblock.{Superblock, second_place_of}
 use Rattle.qx_super.specs.Written.{superblock_written}
-use Rattle.qx_super.specs.Active.{active_area, active_super, only_at}
+use Rattle.qx_super.specs.Active.{active_area, active_super, only_at, choice_in}
 use Rattle.qx_view.specs.Images.{image_blocks}
 use Rattle.qx_view.specs.Sound.{IsSound}
 use Rattle.qx_make.specs.Blocks.{AreMade}
@@ -66,7 +67,7 @@ module _ (old : List ℕ) (size : ℕ) (t : Tree) (agree : active_area old ≡ p
   zeroed-first e =
       let (s, active) = IsActiveFirst-is old e in
       let second = second_place_of s in
-      let places : old_places old ≡ second ∷ 0x2000 ∷ [] = ap (λ (p : Pick). places_by p (active_super old)) e ∙ ap (λ (o : Option Superblock). places_by (picks.Active First) o) active.superblock in
+      let places : old_places old ≡ second ∷ 0x2000 ∷ [] = ap places_by (chosen_active (choice_in old) First s (sym (active_area-chosen old) ∙ e) (sym (active_super-chosen old) ∙ active.superblock)) in
       let inner = after_stage (zero_stage old second) in
       subst (λ (ps : List ℕ). AreZeroed ps) (sym places) (record {
         cleared = IsCleared-first old s active;
@@ -81,7 +82,7 @@ module _ (old : List ℕ) (size : ℕ) (t : Tree) (agree : active_area old ≡ p
   zeroed-second e =
       let (s, active) = IsActiveSecond-is old e in
       let second = second_place_of s in
-      let places : old_places old ≡ 0x2000 ∷ second ∷ [] = ap (λ (p : Pick). places_by p (active_super old)) e ∙ ap (λ (o : Option Superblock). places_by (picks.Active Second) o) active.superblock in
+      let places : old_places old ≡ 0x2000 ∷ second ∷ [] = ap places_by (chosen_active (choice_in old) Second s (sym (active_area-chosen old) ∙ e) (sym (active_super-chosen old) ∙ active.superblock)) in
       let inner = after_stage (zero_stage old 0x2000) in
       subst (λ (ps : List ℕ). AreZeroed ps) (sym places) (record {
         cleared = IsCleared-second old s active;
@@ -94,7 +95,7 @@ module _ (old : List ℕ) (size : ℕ) (t : Tree) (agree : active_area old ≡ p
   -- where none was
   zeroed-none : active_area old ≡ picks.None → AreZeroed (old_places old)
   zeroed-none e =
-      let places : old_places old ≡ 0x2000 ∷ [] = ap (λ (p : Pick). places_by p (active_super old)) e in
+      let places : old_places old ≡ 0x2000 ∷ [] = ap places_by (chosen_none (choice_in old) (sym (active_area-chosen old) ∙ e)) in
       subst (λ (ps : List ℕ). AreZeroed ps) (sym places) (record {
         cleared = IsCleared-none old e;
         left = λ stage among img torn. left-none old size t alone e img (subst (λ (x : Stage). IsTorn x (places_of old size) img) (sym (only_one (zero_stage old 0x2000) stage among)) torn);

@@ -9,10 +9,10 @@ use Rattle.qx_fields.specs.declared.order.Order.{Order}
 use Rattle.qx_geom.specs.declared.area.Which.TheVariants.{First, Second}
 use Rattle.qx_geom.specs.declared.geometry.Geometry.{Geometry}
 use Rattle.qx_geom.specs.Layout.{area_place, blocks_begin, first_place}
-use Rattle.qx_super.specs.declared.choice.Pick.{Pick}
-use Rattle.qx_super.specs.declared.choice.Pick.TheVariants as picks
-use Rattle.qx_super.specs.Superblock.{Superblock, second_place_of}
-use Rattle.qx_super.specs.Active.{active_area, active_super}
+use Rattle.qx_super.specs.declared.choice.Choice.{Choice}
+use Rattle.qx_super.specs.declared.choice.Choice.TheVariants as choices
+use Rattle.qx_super.specs.Superblock.{second_place_of}
+use Rattle.qx_super.specs.Active.{choice_in}
 use Rattle.qx_make.specs.Blocks.{made_block_bytes, top_block}
 use Rattle.qx_make.specs.Superblocks.{made_super_bytes}
 
@@ -82,12 +82,11 @@ abbrev pub zero_stage : List ℕ → ℕ → Stage
 zero_stage bytes place = record { kept = bytes; puts = area_zeros (length bytes) place ∷ [] }
 
 -- the places that are zeroed one after another: the other area's and then the active one's, or the first area's where none is active
-abbrev pub places_by : Pick → Option Superblock → List ℕ
-places_by (picks.Active First) (Some s) = second_place_of s ∷ first_place ∷ []
-places_by (picks.Active Second) (Some s) = first_place ∷ second_place_of s ∷ []
-places_by (picks.Active which) None = first_place ∷ []
-places_by picks.None s = first_place ∷ []
-places_by picks.Disagree s = first_place ∷ []
+abbrev pub places_by : Choice → List ℕ
+places_by (choices.Active First s) = second_place_of s ∷ first_place ∷ []
+places_by (choices.Active Second s) = first_place ∷ second_place_of s ∷ []
+places_by choices.None = first_place ∷ []
+places_by choices.Disagree = first_place ∷ []
 
 -- one place, or two
 abbrev pub places_of_two : ℕ → Option ℕ → List ℕ
@@ -96,7 +95,7 @@ places_of_two one (Some last) = one ∷ last ∷ []
 
 -- the places of the old areas in that order
 abbrev pub old_places : List ℕ → List ℕ
-old_places old = places_by (active_area old) (active_super old)
+old_places old = places_by (choice_in old)
 
 -- the stages that zero areas one after another
 abbrev pub zero_stages : List ℕ → List ℕ → List Stage

@@ -19,7 +19,7 @@ use crate::{Made, MakeFault, MakeOptions};
 use qx_fields::Order;
 use qx_geom::{ABSENT, FIRST_PLACE, Geometry, Root, SystemTree, Which};
 use qx_outside::{Dev, Failed};
-use qx_super::{Pick, Super, SuperView, active_view, areas, write_super};
+use qx_super::{Choice, Super, areas, write_super};
 
 /// A root node of nothing.
 fn empty_node() -> Root
@@ -58,13 +58,13 @@ fn superblock(volume: &NewVolume, which: Which) -> Super
 }
 
 /// The places of the old areas, in the order in which they are zeroed: the active one comes last. Where none is active the first area's alone.
-fn places_to_zero(pick: Pick, active: Option<SuperView<'_>>) -> (u64, Option<u64>)
-    ensures { places_of_two result.0 result.1 ≡ places_by pick active.entry }
+fn places_to_zero(choice: Choice<'_>) -> (u64, Option<u64>)
+    ensures { places_of_two result.0 result.1 ≡ places_by choice.entry }
 {
-    match (pick, active) {
-        (Pick::Active(Which::First), Some(view)) => (view.second_place(), Some(FIRST_PLACE)),
-        (Pick::Active(Which::Second), Some(view)) => (FIRST_PLACE, Some(view.second_place())),
-        _ => (FIRST_PLACE, None),
+    match choice {
+        Choice::Active(Which::First, view) => (view.second_place(), Some(FIRST_PLACE)),
+        Choice::Active(Which::Second, view) => (FIRST_PLACE, Some(view.second_place())),
+        Choice::None | Choice::Disagree => (FIRST_PLACE, None),
     }
 }
 
@@ -103,9 +103,8 @@ fn clear_old<D: Dev>(host: &mut D) -> Result<(), Failed>
     let len = host.len()?;
     let mut first = [0; 512];
     let mut second = [0; 512];
-    let pick = areas(host, len, &mut first, &mut second)?;
-    let active = active_view(pick, &first, &second, len);
-    let (one, last) = places_to_zero(pick, active);
+    let areas = areas(host, len, &mut first, &mut second)?;
+    let (one, last) = places_to_zero(areas.choice());
     zero_places(host, len, one, last)
 }
 

@@ -1,17 +1,22 @@
 -- The active area by what was read, and on what it depends.
-use Rattle.std.proofs.Common.{◌≡◌, ℕ, Bool, true, false, List, length, replicate, Option, Some, None, Err, IsSome, IfSome, refl, ap, sym, ◌∙◌, if◌then◌else◌}
+use Rattle.std.proofs.Common.{◌≡◌, ℕ, Bool, true, false, List, length, replicate, Option, Some, None, Err, IsSome, IfSome, refl, ap, sym, ◌∙◌, if◌then◌else◌, ◌⊎◌, inl, inr}
 use Rattle.std.specs.Prelude.{option_and_then, nat_lt, ◌<◌, ◌≤◌}
 use Rattle.std.proofs.lemmas.Bool.{lt-ltb, le-ltb}
 use Rattle.std.specs.Result.{result_ok}
 use Rattle.qx_fields.specs.Number.{field}
 use Rattle.qx_geom.specs.declared.area.Which.{Which}
 use Rattle.qx_geom.specs.declared.area.Which.TheVariants.{First, Second}
+use Rattle.qx_super.specs.declared.active.Later.{Later}
+use Rattle.qx_super.specs.declared.active.Later.TheVariants as laters
+use Rattle.qx_super.specs.declared.supers.Areas.{Areas}
+use Rattle.qx_super.specs.declared.choice.Choice.{Choice}
+use Rattle.qx_super.specs.declared.choice.Choice.TheVariants as choices
 use Rattle.qx_super.specs.declared.choice.Pick.{Pick}
 use Rattle.qx_super.specs.declared.choice.Pick.TheVariants as picks
 use Rattle.qx_super.specs.declared.superblock.SuperFault.TheVariants.{Magic}
 use Rattle.qx_outside.specs.Causes.{StaysWhereTold}
 use Rattle.qx_super.specs.Superblock.{Superblock, order_of, superblock_of}
-use Rattle.qx_super.specs.Active.{AreRead, area_at, valid_area, only_at, searched_place, buffer_of, first_area, second_area, first_super, second_search, second_super, first_read, second_read, is_same_volume, pick_of, super_of_pick, active_area, active_super}
+use Rattle.qx_super.specs.Active.{AreRead, IsOfImage, choice_in, choice_later, choice_of, later_of, pick_in, pick_later, super_in, area_at, valid_area, only_at, searched_place, buffer_of, first_area, second_area, first_super, second_search, second_super, first_read, second_read, is_same_volume, pick_of, super_of_pick, active_area, active_super}
 
 -- bytes 0 have no magic
 pub superblock_of-zeros : (len : ℕ) → superblock_of (replicate 512 0) len ≡ Err Magic
@@ -92,18 +97,17 @@ unfolding active_area active_super
 active_super-second img e = ap (λ p. super_of_pick p (first_super img) (second_super img)) e
 
 -- of two superblocks the one that is picked is there
-IsSome-both : (same later : Bool) (a b : Superblock) (which : Which) → (if same then (if later then picks.Active Second else picks.Active First) else picks.Disagree) ≡ picks.Active which
-    → IsSome (super_of_pick (if same then (if later then picks.Active Second else picks.Active First) else picks.Disagree) (Some a) (Some b))
-IsSome-both true true a b which e = refl
-IsSome-both true false a b which e = refl
-IsSome-both false later a b which e = absurd (cc e)
+IsSome-both : (later : Later) (a b : Superblock) (which : Which) → pick_later later ≡ picks.Active which → IsSome (super_of_pick (pick_later later) (Some a) (Some b))
+IsSome-both laters.First a b which e = refl
+IsSome-both laters.Second a b which e = refl
+IsSome-both laters.Neither a b which e = absurd (cc e)
 
 -- of any two the one that is picked is there
 IsSome-picked : (a b : Option Superblock) (which : Which) → pick_of a b ≡ picks.Active which → IsSome (super_of_pick (pick_of a b) a b)
 IsSome-picked None None which e = absurd (cc e)
 IsSome-picked (Some a) None which e = refl
 IsSome-picked None (Some b) which e = refl
-IsSome-picked (Some a) (Some b) which e = IsSome-both _ _ a b which e
+IsSome-picked (Some a) (Some b) which e = IsSome-both (later_of a b) a b which e
 
 -- where an area is active, its superblock is there
 pub IsSome-active_super : (img : List ℕ) (which : Which) → active_area img ≡ picks.Active which → IsSome (active_super img)
@@ -131,10 +135,10 @@ pub active-second_alone : (img : List ℕ) (b : Superblock) → first_super img 
 active-second_alone img b first second = picked img None (Some b) first second
 
 -- the pick of two of one volume
-pick_of-one_volume : (a b : Superblock) (later : Bool) → is_same_volume a b ≡ true → nat_lt a.serial b.serial ≡ later → pick_of (Some a) (Some b) ≡ (if later then picks.Active Second else picks.Active First)
+pick_of-one_volume : (a b : Superblock) (later : Bool) → is_same_volume a b ≡ true → nat_lt a.serial b.serial ≡ later → pick_of (Some a) (Some b) ≡ pick_later (if later then laters.Second else laters.First)
 pick_of-one_volume a b later same order =
-    ap (λ (one : Bool). if one then (if nat_lt a.serial b.serial then picks.Active Second else picks.Active First) else picks.Disagree) same
-    ∙ ap (λ (t : Bool). if t then picks.Active Second else picks.Active First) order
+    ap (λ (one : Bool). pick_later (if one then (if nat_lt a.serial b.serial then laters.Second else laters.First) else laters.Neither)) same
+    ∙ ap (λ (t : Bool). pick_later (if t then laters.Second else laters.First)) order
 
 -- of two of one volume the one with the greater serial is active
 pub active-second_later : (img : List ℕ) (a b : Superblock) → first_super img ≡ Some a → second_super img ≡ Some b → is_same_volume a b ≡ true → a.serial < b.serial → (active_area img ≡ picks.Active Second) × (active_super img ≡ Some b)
@@ -169,3 +173,70 @@ len_is before mid None n len first second told given = absurd (cc told)
 len_is before None (Some k) n len first second told given = absurd (cc second.same)
 len_is None (Some j) (Some k) n len first second told given = absurd (cc first.same)
 len_is (Some m) (Some j) (Some k) n len first second told given = cc (first.same, second.same, told, given)
+
+-- a choice between two that are there is one of them, or they disagree
+both_picked : (later : Later) → pick_later later ≡ picks.None → ⊥
+both_picked laters.First e = absurd (cc e)
+both_picked laters.Second e = absurd (cc e)
+both_picked laters.Neither e = absurd (cc e)
+
+-- nothing is picked only where neither is there
+pub none_picked : (a b : Option Superblock) → pick_of a b ≡ picks.None → (a ≡ None) × (b ≡ None)
+none_picked None None e = (refl, refl)
+none_picked (Some a) None e = absurd (cc e)
+none_picked None (Some b) e = absurd (cc e)
+none_picked (Some a) (Some b) e = absurd (both_picked (later_of a b) e)
+
+-- ---- the choice
+
+-- of two that are there it is the pick, with its superblock
+later_chosen : (later : Later) (a b : Superblock) → (pick_later later ≡ pick_in (choice_later later a b)) × (super_of_pick (pick_later later) (Some a) (Some b) ≡ super_in (choice_later later a b))
+later_chosen laters.First a b = (refl, refl)
+later_chosen laters.Second a b = (refl, refl)
+later_chosen laters.Neither a b = (refl, refl)
+
+-- of any two
+chosen : (a b : Option Superblock) → (pick_of a b ≡ pick_in (choice_of a b)) × (super_of_pick (pick_of a b) a b ≡ super_in (choice_of a b))
+chosen None None = (refl, refl)
+chosen (Some a) None = (refl, refl)
+chosen None (Some b) = (refl, refl)
+chosen (Some a) (Some b) = later_chosen (later_of a b) a b
+
+-- of an image
+pub active_area-chosen : (img : List ℕ) → active_area img ≡ pick_in (choice_in img)
+unfolding active_area choice_in
+active_area-chosen img = (chosen (first_super img) (second_super img)).0
+
+pub active_super-chosen : (img : List ℕ) → active_super img ≡ super_in (choice_in img)
+unfolding active_super choice_in
+active_super-chosen img = (chosen (first_super img) (second_super img)).1
+
+-- a choice by its area and its superblock
+pub chosen_active : (c : Choice) (which : Which) (s : Superblock) → pick_in c ≡ picks.Active which → super_in c ≡ Some s → c ≡ choices.Active which s
+chosen_active (choices.Active w t) which s area super = cc (area, super)
+chosen_active choices.None which s area super = absurd (cc area)
+chosen_active choices.Disagree which s area super = absurd (cc area)
+
+-- where none is active
+pub chosen_none : (c : Choice) → pick_in c ≡ picks.None → c ≡ choices.None
+chosen_none (choices.Active w t) area = absurd (cc area)
+chosen_none choices.None area = refl
+chosen_none choices.Disagree area = absurd (cc area)
+
+-- the choice of an image's own superblocks
+pub choice_read : (img : List ℕ) (areas : Areas) → IsOfImage img areas → choice_of areas.first areas.second ≡ choice_in img
+unfolding choice_in
+choice_read img areas is =
+    ap (λ (s : Option Superblock). choice_of s areas.second) is.first ∙ ap (λ (s : Option Superblock). choice_of (first_super img) s) is.second
+
+-- the chosen superblock is one of the two
+later_one : (later : Later) (a b : Superblock) (which : Which) (s : Superblock) → choice_later later a b ≡ choices.Active which s → (Some a ≡ Some s) ⊎ (Some b ≡ Some s)
+later_one laters.First a b which s e = inl (cc e)
+later_one laters.Second a b which s e = inr (cc e)
+later_one laters.Neither a b which s e = absurd (cc e)
+
+pub chosen_one : (a b : Option Superblock) (which : Which) (s : Superblock) → choice_of a b ≡ choices.Active which s → (a ≡ Some s) ⊎ (b ≡ Some s)
+chosen_one None None which s e = absurd (cc e)
+chosen_one (Some a) None which s e = inl (cc e)
+chosen_one None (Some b) which s e = inr (cc e)
+chosen_one (Some a) (Some b) which s e = later_one (later_of a b) a b which s e

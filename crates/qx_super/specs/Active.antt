@@ -5,6 +5,11 @@ use Rattle.qx_fields.specs.declared.order.Order.{Order}
 use Rattle.qx_fields.specs.declared.order.Order.TheVariants.{Little, Big}
 use Rattle.qx_geom.specs.Layout.{first_place}
 use Rattle.qx_geom.specs.declared.area.Which.TheVariants.{First, Second}
+use Rattle.qx_super.specs.declared.active.Later.{Later}
+use Rattle.qx_super.specs.declared.active.Later.TheVariants as laters
+use Rattle.qx_super.specs.declared.supers.Areas.{Areas}
+use Rattle.qx_super.specs.declared.choice.Choice.{Choice}
+use Rattle.qx_super.specs.declared.choice.Choice.TheVariants as choices
 use Rattle.qx_super.specs.declared.choice.Pick.{Pick}
 use Rattle.qx_super.specs.declared.choice.Pick.TheVariants as picks
 use Rattle.qx_super.specs.Superblock.{Superblock, superblock_of, second_place_of}
@@ -58,12 +63,28 @@ is_same_order Big Big = true
 abbrev pub is_same_volume : Superblock → Superblock → Bool
 is_same_volume a b = is_same_order a.order b.order && ((a.blocksize == b.blocksize) && ((a.num_blocks == b.num_blocks) && (a.num_inodes == b.num_inodes)))
 
--- the choice: the only one, or of two the one with the greater serial, the first at equal serials
+-- of two of one volume the one with the greater serial, the first at equal serials
+abbrev pub later_of : Superblock → Superblock → Later
+later_of a b = if is_same_volume a b then (if nat_lt a.serial b.serial then laters.Second else laters.First) else laters.Neither
+
+-- the area that is then active
+abbrev pub pick_later : Later → Pick
+pick_later laters.First = picks.Active First
+pick_later laters.Second = picks.Active Second
+pick_later laters.Neither = picks.Disagree
+
+-- the same, with its superblock
+abbrev pub choice_later : Later → Superblock → Superblock → Choice
+choice_later laters.First a b = choices.Active First a
+choice_later laters.Second a b = choices.Active Second b
+choice_later laters.Neither a b = choices.Disagree
+
+-- the choice: the only one, or of two the later
 abbrev pub pick_of : Option Superblock → Option Superblock → Pick
 pick_of None None = picks.None
 pick_of (Some a) None = picks.Active First
 pick_of None (Some b) = picks.Active Second
-pick_of (Some a) (Some b) = if is_same_volume a b then (if nat_lt a.serial b.serial then picks.Active Second else picks.Active First) else picks.Disagree
+pick_of (Some a) (Some b) = pick_later (later_of a b)
 
 -- the active area of an image, if there is one
 unfoldable pub active_area : List ℕ → Pick
@@ -79,6 +100,31 @@ super_of_pick picks.Disagree a b = None
 -- the active superblock, if there is one
 unfoldable pub active_super : List ℕ → Option Superblock
 active_super img = super_of_pick (pick_of (first_super img) (second_super img)) (first_super img) (second_super img)
+
+-- ---- the area that counts, with its superblock
+
+-- the choice: the only one, or of two the later
+abbrev pub choice_of : Option Superblock → Option Superblock → Choice
+choice_of None None = choices.None
+choice_of (Some a) None = choices.Active First a
+choice_of None (Some b) = choices.Active Second b
+choice_of (Some a) (Some b) = choice_later (later_of a b) a b
+
+-- of an image
+unfoldable pub choice_in : List ℕ → Choice
+choice_in img = choice_of (first_super img) (second_super img)
+
+-- the area alone
+abbrev pub pick_in : Choice → Pick
+pick_in (choices.Active which s) = picks.Active which
+pick_in choices.None = picks.None
+pick_in choices.Disagree = picks.Disagree
+
+-- the superblock alone
+abbrev pub super_in : Choice → Option Superblock
+super_in (choices.Active which s) = Some s
+super_in choices.None = None
+super_in choices.Disagree = None
 
 -- ---- the same by what was read into two buffers
 
@@ -98,3 +144,17 @@ second_read first second len = option_and_then (λ place. only_at place (result_
 pub record AreRead (img first second : List ℕ) : Type 0 where
   pub first_bytes : first ≡ buffer_of (first_area img)
   pub second_bytes : second ≡ buffer_of (second_area img)
+
+-- these are the superblocks of two buffers of 512 bytes that were read, on a device of this length
+pub record IsReadFrom (len : ℕ) (areas : Areas) : Type 0 where
+  pub first : List ℕ
+  pub second : List ℕ
+  pub first_long : length first ≡ 512
+  pub second_long : length second ≡ 512
+  pub first_is : areas.first ≡ first_read first len
+  pub second_is : areas.second ≡ second_read first second len
+
+-- these are the superblocks of an image
+pub record IsOfImage (img : List ℕ) (areas : Areas) : Type 0 where
+  pub first : areas.first ≡ first_super img
+  pub second : areas.second ≡ second_super img

@@ -3,7 +3,7 @@ ghost use Rattle.std.specs.Prelude.{◌≡◌, length, option_and_then};
 ghost use Rattle.std.specs.Option.{option_copied};
 ghost use Rattle.std.specs.Result.{result_ok};
 ghost use Rattle.qx_super.specs.Superblock.{superblock_of};
-ghost use Rattle.qx_super.specs.Active.{is_same_volume, pick_of, searched_place, only_at, first_read, second_read, super_of_pick};
+ghost use Rattle.qx_super.specs.Active.{is_same_volume, later_of, pick_of, searched_place, only_at, first_read};
 
 use crate::{Pick, SuperView};
 use qx_geom::Which;
@@ -17,7 +17,29 @@ fn is_same_volume_as(a: &SuperView<'_>, b: &SuperView<'_>) -> bool
         && a.num_inodes() == b.num_inodes()
 }
 
-/// Picks the area that counts: the only valid one, or of two of one volume the one with the greater serial, the first at equal serials (this project's own rule).
+/// Which of two superblocks counts, where they are of one volume.
+#[derive(Clone, Copy)]
+pub(crate) enum Later {
+    First,
+    Second,
+    /// They aren't of one volume.
+    Neither,
+}
+
+/// Of two superblocks of one volume the one with the greater serial, the first at equal serials (this project's own rule).
+pub(crate) fn later_of(first: &SuperView<'_>, second: &SuperView<'_>) -> Later
+    ensures { result ≡ later_of first.now second.now }
+{
+    if !is_same_volume_as(first, second) {
+        Later::Neither
+    } else if first.serial() < second.serial() {
+        Later::Second
+    } else {
+        Later::First
+    }
+}
+
+/// Picks the area that counts: the only valid one, or of two the later.
 pub fn pick(first: Option<&SuperView<'_>>, second: Option<&SuperView<'_>>) -> Pick
     ensures { result ≡ pick_of (option_copied first.entry) (option_copied second.entry) }
 {
@@ -25,15 +47,11 @@ pub fn pick(first: Option<&SuperView<'_>>, second: Option<&SuperView<'_>>) -> Pi
         (None, None) => Pick::None,
         (Some(_), None) => Pick::Active(Which::First),
         (None, Some(_)) => Pick::Active(Which::Second),
-        (Some(a), Some(b)) => {
-            if !is_same_volume_as(a, b) {
-                Pick::Disagree
-            } else if a.serial() < b.serial() {
-                Pick::Active(Which::Second)
-            } else {
-                Pick::Active(Which::First)
-            }
-        }
+        (Some(first), Some(second)) => match later_of(first, second) {
+            Later::First => Pick::Active(Which::First),
+            Later::Second => Pick::Active(Which::Second),
+            Later::Neither => Pick::Disagree,
+        },
     }
 }
 
@@ -64,24 +82,5 @@ pub fn second_in<'a>(second: &'a [u8], len: u64, place: Option<u64>) -> Option<S
     match SuperView::read(second, len) {
         Ok(view) if view.second_place() == place => Some(view),
         _ => None,
-    }
-}
-
-/// The superblock of the area that was picked by these two buffers.
-pub fn active_view<'a>(
-    pick: Pick,
-    first: &'a [u8],
-    second: &'a [u8],
-    len: u64,
-) -> Option<SuperView<'a>>
-    requires first { length first.now ≡ 512 }
-    requires second { length second.now ≡ 512 }
-    requires pick { pick ≡ pick_of (first_read first.now len) (second_read first.now second.now len) }
-    ensures { result ≡ super_of_pick pick (first_read first.now len) (second_read first.now second.now len) }
-{
-    match pick {
-        Pick::Active(Which::First) => SuperView::read(first, len).ok(),
-        Pick::Active(Which::Second) => SuperView::read(second, len).ok(),
-        Pick::None | Pick::Disagree => None,
     }
 }

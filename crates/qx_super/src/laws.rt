@@ -15,7 +15,7 @@ ghost use Rattle.qx_super.specs.Checksum.{checksum_of};
 ghost use Rattle.qx_super.specs.RootNode.{root_of, root_bytes, FitsRoot};
 ghost use Rattle.qx_super.specs.Superblock.{Superblock, superblock_of, second_place_of, has_right_checksum};
 ghost use Rattle.qx_super.specs.Written.{super_bytes, written_or_refused, FitsSuper};
-ghost use Rattle.qx_super.specs.Active.{AreRead, active_area, active_super, first_area, first_read, first_super, pick_of, second_area, second_read, second_super, is_same_volume};
+ghost use Rattle.qx_super.specs.Active.{AreRead, active_area, active_super, choice_in, first_area, first_read, first_super, pick_in, pick_of, second_area, second_read, second_super, super_in, is_same_volume};
 
 /// A node that is written as a root node has 80 bytes, and is read back.
 pub fn a_root_node_is_read_back()
@@ -94,6 +94,12 @@ pub fn the_active_superblock_is_its_areas()
         → active_super img ≡ second_super img }
     ensures there { (img : List ℕ) (which : Which) → active_area img ≡ picks.Active which
         → IsSome (active_super img) }
+{}
+
+/// What is chosen is the active area, and its superblock the active one.
+pub fn the_choice_is_the_active_area()
+    ensures area { (img : List ℕ) → active_area img ≡ pick_in (choice_in img) }
+    ensures superblock { (img : List ℕ) → active_super img ≡ super_in (choice_in img) }
 {}
 
 /// Without a superblock in either area none is active.

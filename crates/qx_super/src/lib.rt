@@ -12,10 +12,11 @@ mod laws;
 mod nodes;
 mod reading;
 mod superblock;
+mod supers;
 mod writing;
 
-pub use active::{active_view, pick};
-pub use choice::Pick;
+pub use active::pick;
+pub use choice::{Choice, Pick};
 pub use division::checksum;
 pub use laws::{
     a_buffer_of_zeros_is_no_superblock, a_root_node_is_read_back, a_superblock_alone_is_active,
@@ -23,9 +24,10 @@ pub use laws::{
     a_valid_superblock_passed_each_test, bytes_without_a_right_checksum_are_no_superblock,
     bytes_without_the_magic_are_no_superblock, no_superblock_means_no_active_area,
     the_active_superblock_is_its_areas, the_areas_decide, the_checksum_of_few_bits,
-    the_later_of_two_superblocks_is_active, what_was_read_decides,
+    the_choice_is_the_active_area, the_later_of_two_superblocks_is_active, what_was_read_decides,
 };
 pub use nodes::{read_root, write_root};
 pub use reading::areas;
 pub use superblock::{MAGIC, RootName, SuperFault, SuperView};
+pub use supers::Areas;
 pub use writing::{Super, write_super};

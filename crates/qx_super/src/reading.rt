@@ -1,12 +1,12 @@
 //! Both areas of an image, read from a device.
 ghost use Rattle.std.specs.Prelude.{◌≡◌, ◌+◌, ◌≤◌, length, IfSome, IfOk, OnOk, IsTrue, option_and_then};
-ghost use Rattle.qx_super.specs.Active.{area_at, buffer_of, first_area, second_area, active_area, first_read, second_read, pick_of};
+ghost use Rattle.qx_super.specs.Active.{IsOfImage, IsReadFrom, area_at, buffer_of};
 ghost use Rattle.qx_outside.specs.Causes.{HasCause, StaysWhereTold};
 ghost use Rattle.qx_outside.specs.Calls.{Idles, LeavesConsole, ReadsAtMost};
 ghost use Rattle.qx_outside.specs.Trail.{bytes_of};
 
-use crate::Pick;
-use crate::active::{first_in, pick, place_to_search, second_in};
+use crate::Areas;
+use crate::active::{first_in, place_to_search, second_in};
 use qx_geom::FIRST_PLACE;
 use qx_outside::{Dev, Failed};
 
@@ -19,7 +19,9 @@ fn read_area<D: Dev>(
 ) -> Result<(), Failed>
     requires len { IfSome (D.outside host.old).extent (λ n. n ≡ len) }
     requires into { length into.old ≡ 512 }
-    ensures bytes { OnOk result (IsTrue (D.outside host.new).tells → into.new ≡ buffer_of (option_and_then (λ at. area_at (bytes_of (D.outside host.new).history) at) place)) }
+    ensures bytes { OnOk result (IsTrue (D.outside host.new).tells
+        → into.new ≡ buffer_of (option_and_then (λ at. area_at (bytes_of (D.outside host.new).history) at) place)) }
+    ensures long { length into.new ≡ 512 }
     ensures step { Idles (D.outside host.old) (D.outside host.new) }
     ensures extent { StaysWhereTold (D.outside host.old).extent (D.outside host.new).extent }
     ensures reads { ReadsAtMost 1 (D.outside host.old) (D.outside host.new) }
@@ -35,25 +37,23 @@ fn read_area<D: Dev>(
     }
 }
 
-/// Reads both areas into buffers of 512 bytes, and picks the active one. A buffer has 0 where the device lacks its area.
+/// Reads both areas into buffers of 512 bytes, and lends their superblocks. A buffer has 0 where the device lacks its area.
 /// `len` is the device's length in bytes.
-pub fn areas<D: Dev>(
+pub fn areas<'a, D: Dev>(
     host: &mut D,
     len: u64,
-    first: &mut [u8],
-    second: &mut [u8],
-) -> Result<Pick, Failed>
+    first: &'a mut [u8],
+    second: &'a mut [u8],
+) -> Result<Areas<'a>, Failed>
     requires len { IfSome (D.outside host.old).extent (λ n. n ≡ len) }
     requires first { length first.old ≡ 512 }
     requires second { length second.old ≡ 512 }
 
     // What was read decides, whatever the device tells.
-    ensures pick { IfOk result (λ pick. pick ≡ pick_of (first_read first.new len) (second_read first.new second.new len)) }
+    ensures read { IfOk result (IsReadFrom len) }
 
     // Where the device tells, that is what its bytes decide.
-    ensures active { IfOk result (λ pick. IsTrue (D.outside host.new).tells → pick ≡ active_area (bytes_of (D.outside host.new).history)) }
-    ensures first { OnOk result (IsTrue (D.outside host.new).tells → first.new ≡ buffer_of (first_area (bytes_of (D.outside host.new).history))) }
-    ensures second { OnOk result (IsTrue (D.outside host.new).tells → second.new ≡ buffer_of (second_area (bytes_of (D.outside host.new).history))) }
+    ensures told { IfOk result (λ areas. IsTrue (D.outside host.new).tells → IsOfImage (bytes_of (D.outside host.new).history) areas) }
 
     ensures step { Idles (D.outside host.old) (D.outside host.new) }
     ensures extent { StaysWhereTold (D.outside host.old).extent (D.outside host.new).extent }
@@ -66,5 +66,8 @@ pub fn areas<D: Dev>(
     let place = place_to_search(first_super.as_ref(), len);
     read_area(host, len, place, second)?;
     let second_super = second_in(second, len, place);
-    Ok(pick(first_super.as_ref(), second_super.as_ref()))
+    Ok(Areas {
+        first: first_super,
+        second: second_super,
+    })
 }

@@ -1,4 +1,3 @@
-pub mod Readings
 pub mod ReadRuns
 pub mod MakerRuns
 pub mod RunEnds

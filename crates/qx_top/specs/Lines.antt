@@ -10,10 +10,10 @@ use Rattle.qx_geom.specs.declared.area.Which.{Which}
 use Rattle.qx_geom.specs.declared.geometry.GeomFault.{GeomFault}
 use Rattle.qx_geom.specs.declared.geometry.GeomFault.TheVariants.{BlockSize, TooShort, TooLarge, Inodes}
 use Rattle.qx_geom.specs.Area.{area_number}
-use Rattle.qx_super.specs.declared.choice.Pick.{Pick}
-use Rattle.qx_super.specs.declared.choice.Pick.TheVariants as picks
+use Rattle.qx_super.specs.declared.choice.Choice.{Choice}
+use Rattle.qx_super.specs.declared.choice.Choice.TheVariants as choices
 use Rattle.qx_super.specs.Superblock.{Superblock}
-use Rattle.qx_super.specs.Active.{active_area, active_super, first_read, second_read, pick_of, super_of_pick}
+use Rattle.qx_super.specs.Active.{choice_in}
 use Rattle.qx_top.specs.declared.lines.Line.{Line}
 use Rattle.qx_top.specs.declared.lines.Line.TheVariants as lines
 use Rattle.qx_top.specs.declared.reports.Report.{Report}
@@ -69,24 +69,15 @@ refused line = record { line = line; status = BadImage }
 abbrev pub area_line : Which → Superblock → Line
 area_line which s = lines.Area which s.serial s.blocksize s.num_blocks s.num_inodes s.order
 
--- the report on the area that was picked, and on its superblock. An active area always has one, so the second case never comes
-abbrev pub report_of : Pick → Option Superblock → Report
-report_of (picks.Active which) (Some s) = record { line = area_line which s; status = Done }
-report_of (picks.Active which) None = refused lines.NoVolume
-report_of picks.None s = refused lines.NoVolume
-report_of picks.Disagree s = refused lines.Disagree
+-- the report on the area that counts
+abbrev pub report_of : Choice → Report
+report_of (choices.Active which s) = record { line = area_line which s; status = Done }
+report_of choices.None = refused lines.NoVolume
+report_of choices.Disagree = refused lines.Disagree
 
 -- what is said of an image
 unfoldable pub supers_report : List ℕ → Report
-supers_report img = report_of (active_area img) (active_super img)
-
--- the same by two superblocks
-abbrev pub report_by : Option Superblock → Option Superblock → Report
-report_by first second = report_of (pick_of first second) (super_of_pick (pick_of first second) first second)
-
--- the same by what was read of both areas
-unfoldable pub report_read : List ℕ → List ℕ → ℕ → Report
-report_read first second len = report_by (first_read first len) (second_read first second len)
+supers_report img = report_of (choice_in img)
 
 -- ---- the checker's verdict
 

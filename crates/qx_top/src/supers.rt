@@ -1,10 +1,9 @@
 //! `chkqnx6fs -s IMAGE`: one line about the superblocks of an image.
-ghost use Rattle.std.specs.Prelude.{◌≡◌, ◌≢◌, ◌<◌, length, IfOk, IsTrue, Some};
+ghost use Rattle.std.specs.Prelude.{◌≡◌, ◌≢◌, ◌<◌, IfOk, IsTrue, Some};
 ghost use Rattle.qx_outside.specs.Causes.{HasCause};
 ghost use Rattle.qx_outside.specs.Calls.{Idles, LeavesConsole};
 ghost use Rattle.qx_outside.specs.Trail.{bytes_of};
-ghost use Rattle.qx_super.specs.Active.{pick_of, first_read, second_read};
-ghost use Rattle.qx_top.specs.Lines.{area_line, report_of, report_read, supers_report};
+ghost use Rattle.qx_top.specs.Lines.{area_line, report_of, supers_report};
 ghost use Rattle.qx_top.specs.Run.{Does, HasCauses};
 ghost use Rattle.qx_top.specs.Says.{code_of};
 ghost use Rattle.qx_top.specs.Words.{supers};
@@ -14,7 +13,7 @@ use crate::lines::Line;
 use crate::reports::{Report, say};
 use qx_geom::Which;
 use qx_outside::{Dev, Failed, Host};
-use qx_super::{Pick, SuperView, active_view, areas};
+use qx_super::{Choice, SuperView, areas};
 
 /// The line about a superblock and the area in which it stands.
 fn line_of_area(which: Which, view: &SuperView<'_>) -> Line
@@ -30,30 +29,16 @@ fn line_of_area(which: Which, view: &SuperView<'_>) -> Line
     }
 }
 
-/// The report on a pick, and on the superblock of the area that was picked.
-fn report_on(pick: Pick, active: Option<SuperView<'_>>) -> Report
-    ensures report { result ≡ report_of pick active.entry }
+/// The report on the area that counts.
+fn report_on(choice: Choice<'_>) -> Report
+    ensures report { result ≡ report_of choice.entry }
     ensures of_image { (code_of result.status < 3) × (code_of result.status ≢ 1) }
 {
-    match (pick, active) {
-        (Pick::Active(which), Some(view)) => {
-            Report::new(line_of_area(which, &view), Status::Done)
-        }
-        (Pick::Disagree, _) => Report::refused(Line::Disagree),
-        _ => Report::refused(Line::NoVolume),
+    match choice {
+        Choice::Active(which, view) => Report::new(line_of_area(which, &view), Status::Done),
+        Choice::None => Report::refused(Line::NoVolume),
+        Choice::Disagree => Report::refused(Line::Disagree),
     }
-}
-
-/// The report on two areas that were read.
-#[tactic(auto, unfolding(crate::specs::Lines::report_read))]
-fn report_on_buffers(pick: Pick, first: &[u8], second: &[u8], len: u64) -> Report
-    requires first { length first.now ≡ 512 }
-    requires second { length second.now ≡ 512 }
-    requires pick { pick ≡ pick_of (first_read first.now len) (second_read first.now second.now len) }
-    ensures report { result ≡ report_read first.now second.now len }
-    ensures of_image { (code_of result.status < 3) × (code_of result.status ≢ 1) }
-{
-    report_on(pick, active_view(pick, first, second, len))
 }
 
 /// The report on the superblocks of the device.
@@ -68,8 +53,8 @@ fn report_on_device<D: Dev>(host: &mut D) -> Result<Report, Failed>
     let len = host.len()?;
     let mut first = [0; 512];
     let mut second = [0; 512];
-    let pick = areas(host, len, &mut first, &mut second)?;
-    Ok(report_on_buffers(pick, &first, &second, len))
+    let areas = areas(host, len, &mut first, &mut second)?;
+    Ok(report_on(areas.choice()))
 }
 
 /// Attaches the image, and gives the line about its superblocks.

@@ -16,7 +16,7 @@ use crate::{RootNodes, Survey, WalkFault, Walked};
 use qx_geom::Which;
 use qx_outside::Dev;
 use qx_pointers::Shape;
-use qx_super::{Pick, RootName, SuperView, active_view, areas};
+use qx_super::{Choice, RootName, SuperView, areas};
 use qx_view::Foreign;
 use std::alloc::Global;
 
@@ -31,16 +31,13 @@ pub fn walk<D: Dev>(alloc: Global, host: &mut D, len: u64) -> Result<Survey, Wal
 {
     let mut first = [0; 512];
     let mut second = [0; 512];
-    let Ok(pick) = areas(host, len, &mut first, &mut second) else {
+    let Ok(areas) = areas(host, len, &mut first, &mut second) else {
         return Err(WalkFault::Device);
     };
-    match pick {
-        Pick::None => Err(WalkFault::NoVolume),
-        Pick::Disagree => Err(WalkFault::Disagree),
-        Pick::Active(which) => match active_view(pick, &first, &second, len) {
-            None => unreachable!(),
-            Some(view) => survey(alloc, host, len, which, &view),
-        },
+    match areas.choice() {
+        Choice::None => Err(WalkFault::NoVolume),
+        Choice::Disagree => Err(WalkFault::Disagree),
+        Choice::Active(which, view) => survey(alloc, host, len, which, &view),
     }
 }
 

@@ -23,7 +23,8 @@ fn active_on<D: Dev>(host: &mut D) -> Result<Option<[u8; 512]>, Failed> {
     let len = host.len()?;
     let mut first = [0; 512];
     let mut second = [0; 512];
-    match areas(host, len, &mut first, &mut second)? {
+    let pick = areas(host, len, &mut first, &mut second)?.pick();
+    match pick {
         Pick::Active(Which::First) => Ok(Some(first)),
         Pick::Active(Which::Second) => Ok(Some(second)),
         Pick::None => Ok(None),

@@ -1,16 +1,18 @@
-use Rattle.std.proofs.Common.{◌≡◌, length, IsTrue, ◌∙◌}
+use Rattle.std.proofs.Common.{◌≡◌, ℕ, List, ap, ◌∙◌}
 use Rattle.qx_outside.specs.Trail.{bytes_of}
-use Rattle.qx_outside.proofs.ToldLengths.{answered_is}
-use Rattle.qx_top.proofs.Readings.{report_read-is}
-use Rattle.qx_top.proofs.supers.report_on_device.Given.{Over}
+use Rattle.qx_super.specs.declared.choice.Choice.{Choice}
+use Rattle.qx_super.specs.declared.supers.Areas.{Areas}
+use Rattle.qx_super.specs.Active.{IsOfImage, choice_of}
+use Rattle.qx_super.proofs.ActiveAreas.{choice_read}
+use Rattle.qx_top.specs.Lines.{report_of, supers_report}
 use Rattle.qx_top.proofs.supers.report_on_device.Goals as goal
 
--- where the device tells, its length is the one that was answered
-long : (g : Over) (c : goal.After-report_on_buffers g) → IsTrue (g.D.Dev.outside c.areas.new.host).tells → c.in_ok-len.len ≡ length (bytes_of (g.D.Dev.outside c.areas.new.host).history)
-long g c told = answered_is _ _ _ _ c.areas.ensures.extent (g.met.D.Dev.extent_is c.areas.new.host told) c.in_ok-len.ensures.value
+-- what was chosen of an image gives its report
+reported : (img : List ℕ) (areas : Areas) (choice : Choice) → IsOfImage img areas → choice ≡ choice_of areas.first areas.second → report_of choice ≡ supers_report img
+unfolding supers_report
+reported img areas choice of_image is = ap report_of (is ∙ choice_read img areas of_image)
 
--- where the device tells, what was read gives its report
 pub returns-clause-report : goal.returns-clause-report
 returns-clause-report g c = λ told.
-    c.report_on_buffers.ensures.report
-    ∙ report_read-is _ _ _ _ (long g c told) (record { first_bytes = c.in_ok-pick.ensures.first told; second_bytes = c.in_ok-pick.ensures.second told })
+    c.report_on.ensures.report
+    ∙ reported (bytes_of (g.D.Dev.outside c.areas.new.host).history) c.in_ok-areas.areas c.choice.result (c.in_ok-areas.ensures.told told) c.choice.ensures
