@@ -1,4 +1,4 @@
-//! Tests of the format: the numbers of a volume, inodes, directory records, long names and superblocks, and the host in memory.
+//! Tests of the format: the numbers of a volume, inodes, directory records, long names, superblocks and system blocks, and the host in memory.
 //!
 //! They stand above what they test, so that a check of them doesn't prove it again.
 #![tactic(auto)]
@@ -33,6 +33,8 @@ mod samples;
 mod sums;
 #[cfg(test)]
 mod superblock;
+#[cfg(test)]
+mod system;
 #[cfg(test)]
 mod tree;
 #[cfg(test)]

@@ -20,7 +20,7 @@ use Rattle.qx_outside.proofs.ToldLengths.{told_weaker}
 use Rattle.qx_make.specs.Blocks.{made_block_bytes, top_block}
 use Rattle.qx_make.specs.Stages.{Passes, Performs, PutsAll, Stage, after_stage, all_block_bytes, blocks_stage}
 use Rattle.qx_make.proofs.MadeBlockLengths.{length-made_block}
-use Rattle.qx_make.proofs.PartsInOrder.{length-parts}
+use Rattle.qx_system.proofs.PartsInOrder.{length-parts}
 use Rattle.qx_make.proofs.PiecesWritten.{parts_split, parts_within, put_next}
 use Rattle.qx_make.proofs.StageSteps.{HasBegun, begin_stage, end_stage, fail_to_put, fail_to_sync, none_of_err, put_in_stage}
 

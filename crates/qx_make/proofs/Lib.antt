@@ -1,9 +1,6 @@
 pub mod StageSteps
 pub mod ZeroedAreas
 pub mod AreaPuts
-pub mod PartsInOrder
-pub mod WholeBlocks
-pub mod BitmapBytes
 pub mod TopDirectory
 pub mod PiecesWritten
 pub mod MadeBlockLengths

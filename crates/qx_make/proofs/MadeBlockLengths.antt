@@ -17,15 +17,16 @@ use Rattle.qx_geom.proofs.BlockSizes.{block_size-bounds}
 use Rattle.qx_geom.proofs.VolumeNumbers.{IsGeometry-keeps}
 use Rattle.qx_records.specs.WrittenInode.{inode_bytes}
 use Rattle.qx_records.proofs.WrittenInodes.{length_inode_bytes}
-use Rattle.qx_make.specs.Blocks.{bitmap_byte, bitmap_leaf_bytes, half_block_bytes, inode_leaf_bytes, made_block_bytes, pointer_block_bytes, top_block, top_directory_bytes, top_inode}
-use Rattle.qx_make.proofs.PartsInOrder.{length-parts}
+use Rattle.qx_make.specs.Blocks.{half_block_bytes, inode_leaf_bytes, is_top, made_block_bytes, top_block, top_directory_bytes, top_inode}
+use Rattle.qx_system.specs.SystemBytes.{bitmap_byte, bitmap_leaf_bytes, pointer_block_bytes}
+use Rattle.qx_system.proofs.PartsInOrder.{length-parts}
 use Rattle.qx_make.proofs.TopDirectory.{row_pieces}
-use Rattle.qx_make.proofs.WholeBlocks.{block_size-words}
+use Rattle.qx_system.proofs.WholeBlocks.{block_size-words}
 
 module _ (g : Geometry) (e : IsGeometry g) (order : Order) (moment : ℕ) where
-  length-bitmap_leaf : (i : ℕ) → length (bitmap_leaf_bytes g i) ≡ g.blocksize
+  length-bitmap_leaf : (i : ℕ) → length (bitmap_leaf_bytes g (is_top g) i) ≡ g.blocksize
   unfolding bitmap_leaf_bytes
-  length-bitmap_leaf i = length-map-range_with_len (λ (k : ℕ). bitmap_byte g (i * g.blocksize + k)) 0 g.blocksize
+  length-bitmap_leaf i = length-map-range_with_len (λ (k : ℕ). bitmap_byte g (is_top g) (i * g.blocksize + k)) 0 g.blocksize
 
   length-pointer_block : (which : Which) (tree : SystemTree) (b : ℕ) → length (pointer_block_bytes g order which tree b) ≡ g.blocksize
   unfolding pointer_block_bytes
@@ -50,7 +51,7 @@ module _ (g : Geometry) (e : IsGeometry g) (order : Order) (moment : ℕ) where
   length-half_block : (which : Which) (r : ℕ) → length (half_block_bytes g order moment which r) ≡ g.blocksize
   length-half_block which r = by_tests (nat_lt r g.bitmap_leaves) (nat_lt r (g.bitmap_leaves + g.bitmap_pointers)) (nat_lt r (g.bitmap_leaves + g.bitmap_pointers + g.inode_leaves))
     where
-      by_tests : (a b c : Bool) → length (if a then bitmap_leaf_bytes g r else if b then pointer_block_bytes g order which trees.Bitmap (first_block g which + r) else if c then inode_leaf_bytes g order moment (r - (g.bitmap_leaves + g.bitmap_pointers)) else pointer_block_bytes g order which trees.Inodes (first_block g which + r)) ≡ g.blocksize
+      by_tests : (a b c : Bool) → length (if a then bitmap_leaf_bytes g (is_top g) r else if b then pointer_block_bytes g order which trees.Bitmap (first_block g which + r) else if c then inode_leaf_bytes g order moment (r - (g.bitmap_leaves + g.bitmap_pointers)) else pointer_block_bytes g order which trees.Inodes (first_block g which + r)) ≡ g.blocksize
       by_tests true b c = length-bitmap_leaf r
       by_tests false true c = length-pointer_block which trees.Bitmap (first_block g which + r)
       by_tests false false true = length-inode_leaf (r - (g.bitmap_leaves + g.bitmap_pointers))

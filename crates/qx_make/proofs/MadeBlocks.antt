@@ -13,7 +13,7 @@ use Rattle.qx_geom.proofs.VolumeNumbers.{IsGeometry-keeps}
 use Rattle.qx_make.specs.Blocks.{made_block_bytes, top_block}
 use Rattle.qx_make.specs.Stages.{all_block_bytes, with_blocks}
 use Rattle.qx_make.proofs.MadeBlockLengths.{length-made_block}
-use Rattle.qx_make.proofs.PartsInOrder.{length-parts}
+use Rattle.qx_system.proofs.PartsInOrder.{length-parts}
 use Rattle.qx_make.proofs.BytesAt.{HasSame, byte_of_range, length-range}
 
 -- ---- parts of one length

@@ -14,7 +14,8 @@ use Rattle.qx_geom.specs.Layout.{IsGeometry, IsPointerBlock, first_block, geomet
 use Rattle.qx_geom.specs.Pointer.{ceil_div}
 use Rattle.qx_geom.proofs.VolumeNumbers.{IsGeometry-keeps, VolumeNumbers, geometry_of-numbers}
 use Rattle.qx_nodes.specs.BlockMap.{BlockMap}
-use Rattle.qx_make.specs.Blocks.{AreMade, bitmap_leaf_bytes, half_block_bytes, inode_leaf_bytes, made_block_bytes, pointer_block_bytes, top_block, top_directory_bytes}
+use Rattle.qx_make.specs.Blocks.{AreMade, half_block_bytes, inode_leaf_bytes, is_top, made_block_bytes, top_block, top_directory_bytes}
+use Rattle.qx_system.specs.SystemBytes.{bitmap_leaf_bytes, pointer_block_bytes}
 
 -- the blocks of a volume, of which those that the maker writes are as it wrote them at a moment
 pub record NewBlocks : Type 0 where
@@ -90,7 +91,7 @@ module _ (v : NewBlocks) where
       v.made (g.half + r) (omega arith) ∙ cond-false _ _ _ (le-ltb (g.half + r) g.half (omega arith)) ∙ cond-true _ _ _ (lt-ltb (g.half + r) (top_block g) (omega arith)) ∙ ap (λ k. half_block_bytes g v.order v.moment Second k) same
 
   -- a leaf of the bitmap
-  pub bitmap_bytes : (which : Which) (i : ℕ) → i < g.bitmap_leaves → v.bytes (tree_base g which trees.Bitmap + i) ≡ bitmap_leaf_bytes g i
+  pub bitmap_bytes : (which : Which) (i : ℕ) → i < g.bitmap_leaves → v.bytes (tree_base g which trees.Bitmap + i) ≡ bitmap_leaf_bytes g (is_top g) i
   bitmap_bytes which i low = let n = numbers in half_bytes which i (omega arith) ∙ cond-true _ _ _ (lt-ltb i g.bitmap_leaves low)
 
   -- a leaf of the Inode tree

@@ -1,5 +1,5 @@
 -- The inodes of a new volume: the root directory's, and zeros.
-use Rattle.std.proofs.Common.{◌≡◌, ℕ, inl, inr, zero, suc, ◌+◌, ◌-◌, ◌*◌, ◌/◌, ◌%◌, ◌≤◌, ◌<◌, ◌^◌, List, [], ◌∷◌, ◌++◌, true, false, refl, ap, sym, ◌∙◌, arith, lit<, length, take, drop}
+use Rattle.std.proofs.Common.{◌≡◌, ℕ, inl, inr, zero, suc, ◌+◌, ◌-◌, ◌*◌, ◌/◌, ◌%◌, ◌≤◌, ◌<◌, ◌^◌, List, [], ◌∷◌, ◌++◌, true, refl, ap, sym, ◌∙◌, arith, lit<, length, take, drop}
 use Rattle.std.specs.Prelude.{All, replicate, slice_range, ◌==◌}
 use Rattle.std.proofs.Math.Nat.{zero-div, zero-mod, zero-mul}
 use Rattle.std.proofs.lemmas.Nat.{div-add-mod'}

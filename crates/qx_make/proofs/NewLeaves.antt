@@ -1,5 +1,5 @@
 -- The leaves of a new volume's system trees.
-use Rattle.std.proofs.Common.{◌≡◌, ℕ, ◌+◌, ◌≤◌, ◌<◌, Bool, true, false, ap, sym, ◌∙◌, subst, arith}
+use Rattle.std.proofs.Common.{◌≡◌, ℕ, ◌+◌, ◌≤◌, ◌<◌, ap, sym, ◌∙◌, subst, arith}
 use Rattle.std.specs.Prelude.{Contains}
 use Rattle.qx_geom.specs.declared.system.SystemTree.{SystemTree}
 use Rattle.qx_geom.specs.declared.system.SystemTree.TheVariants as trees
@@ -15,7 +15,8 @@ use Rattle.qx_nodes.specs.Leaves.{Block, leaf_of}
 use Rattle.qx_nodes.specs.Visits.{Visit, visits_of}
 use Rattle.qx_nodes.proofs.MetLeaves.{node_leaf_found}
 use Rattle.qx_view.proofs.SystemTrees.{IsInTree, tree_met}
-use Rattle.qx_make.specs.Blocks.{bitmap_leaf_bytes, inode_leaf_bytes}
+use Rattle.qx_make.specs.Blocks.{inode_leaf_bytes, is_top}
+use Rattle.qx_system.specs.SystemBytes.{bitmap_leaf_bytes}
 use Rattle.qx_make.proofs.NewBlocks.{NewBlocks, bitmap_bytes, blocks, inode_leaf, leaves_filled}
 use Rattle.qx_make.proofs.NewVisits.{StandsInTree, one_place, system_met}
 use Rattle.qx_make.proofs.NewWords.{system_tree_right}
@@ -64,7 +65,7 @@ module _ (v : NewBlocks) (which : Which) where
       ap (λ k. leaf_of m (system_root_of g which tree) k) (sym same.1) ∙ found ∙ ap (λ b. Block b) met.2
 
   -- the bytes of a leaf of the bitmap
-  pub bitmap_leaf_is : (i : ℕ) → i < g.bitmap_leaves → leaf_bytes m (system_root_of g which trees.Bitmap) i ≡ bitmap_leaf_bytes g i
+  pub bitmap_leaf_is : (i : ℕ) → i < g.bitmap_leaves → leaf_bytes m (system_root_of g which trees.Bitmap) i ≡ bitmap_leaf_bytes g (is_top g) i
   bitmap_leaf_is i low = ap (λ x. bytes_at_leaf m x) (system_leaf trees.Bitmap i low) ∙ bitmap_bytes v which i low
 
   -- and of the Inode tree

@@ -1,10 +1,10 @@
 -- No reason applies to a new volume.
-use Rattle.std.proofs.Common.{◌≡◌, ℕ, inl, inr, zero, suc, ◌+◌, ◌-◌, ◌*◌, ◌/◌, ◌%◌, ◌≤◌, ◌<◌, ◌^◌, List, [], ◌∷◌, Bool, true, false, refl, ap, sym, ◌∙◌, arith, length, drop, Some, None}
+use Rattle.std.proofs.Common.{◌≡◌, ℕ, zero, suc, ◌+◌, ◌-◌, ◌*◌, ◌/◌, ◌%◌, ◌≤◌, ◌<◌, ◌^◌, List, [], ◌∷◌, Bool, true, false, refl, ap, ◌∙◌, arith, length, drop, Some, None}
 use Rattle.std.specs.Prelude.{◌==◌, ◌&&◌, ◌||◌, not, nat_eq, nat_le, nat_lt, map, filter, if◌then◌else◌}
 use Rattle.std.specs.List.{find, list_all, list_any, range_with_len}
 use Rattle.std.proofs.Math.Nat.{div_self, mod_self, zero-mod}
 use Rattle.std.proofs.lemmas.Nat.{div_below}
-use Rattle.std.proofs.lemmas.Bool.{and_from, and_right, cases_order, cond-false, eq-eqb, le-leb, lt-leb, lt-ltb, le-ltb, ne_eqb, or_from, or_left, or_right}
+use Rattle.std.proofs.lemmas.Bool.{and_from, and_right, cond-false, eq-eqb, le-leb, ne_eqb, or_from}
 use Rattle.std.proofs.lemmas.Slice.Eq.{bytes_eq-Decides}
 use Rattle.qx_fields.specs.declared.order.Order.{Order}
 use Rattle.qx_fields.specs.declared.order.Order.TheVariants.{Little, Big}
@@ -29,9 +29,11 @@ use Rattle.qx_view.specs.Images.{Roots, inode_bytes, inode_of, inode_places, raw
 use Rattle.qx_view.specs.Walk.{inode_root, is_directory_inode}
 use Rattle.qx_nodes.specs.ForeignNodes.{has_bare_block, has_leaf_below, has_strays, is_foreign_node}
 use Rattle.qx_view.specs.Sound.{are_zero, bad_long_name, bit_differs, fails_dots, fails_inodes, fails_nodes, is_foreign_directory, has_system_trees, is_same_root, is_short, is_special_inode, is_written_inode, must_be_set}
-use Rattle.qx_make.specs.Blocks.{is_taken, top_block, top_inode}
+use Rattle.qx_make.specs.Blocks.{is_top, top_block, top_inode}
+use Rattle.qx_system.specs.SystemBytes.{is_taken}
 use Rattle.qx_make.specs.NewVolume.{empty_root, new_roots}
-use Rattle.qx_make.proofs.NewBitmap.{bit_of, new_bit}
+use Rattle.qx_system.proofs.TakenBits.{bit_of}
+use Rattle.qx_make.proofs.NewBitmap.{new_bit}
 use Rattle.qx_make.proofs.NewBlocks.{NewBlocks, blocks}
 use Rattle.qx_make.proofs.NewDirectory.{ceil_one, raw_first, raw_second, top_node, top_visits}
 use Rattle.qx_make.proofs.NewInodes.{other_is_zero, top_inode_is, top_is}
@@ -58,16 +60,13 @@ not_one k other = or_from (nat_eq 1 k) false (ne_eqb 1 k other) refl
 same_root : (a : Root) → is_same_root a a ≡ true
 same_root a = and_from (a.size == a.size) _ (eq-eqb a.size a.size refl) (and_from (a.levels == a.levels) _ (eq-eqb a.levels a.levels refl) ((bytes_eq-Decides a.pointers a.pointers).1 refl))
 
--- at or below a block is below it or there
-at_or_below : (b t : ℕ) (c : Bool) → (nat_lt b t || ((nat_eq t b || false) || c)) ≡ (nat_le b t || c)
-at_or_below b t c = elim (cases_order b t) [
-  | inl same ↦ or_right (nat_lt b t) _ (or_left _ c (or_left (nat_eq t b) false (eq-eqb t b (sym same)))) ∙ sym (or_left (nat_le b t) c (le-leb b t (omega arith)))
-  | inr apart ↦ elim apart [
-    | inl below ↦ or_left (nat_lt b t) _ (lt-ltb b t below) ∙ sym (or_left (nat_le b t) c (le-leb b t (omega arith)))
-    | inr above ↦
-        ap (λ x. x || ((nat_eq t b || false) || c)) (le-ltb b t (omega arith)) ∙ ap (λ x. (x || false) || c) (ne_eqb t b (λ e. omega arith)) ∙ sym (ap (λ x. x || c) (lt-leb b t above))
-  ]
-]
+-- with one block alone among the held ones
+one_held : (b t : ℕ) (c : Bool) → (nat_lt b t || ((nat_eq t b || false) || c)) ≡ (nat_lt b t || (nat_eq t b || c))
+one_held b t c = ap (λ x. nat_lt b t || (x || c)) (or_false (nat_eq t b))
+  where
+    or_false : (x : Bool) → (x || false) ≡ x
+    or_false true = refl
+    or_false false = refl
 
 -- behind the named fields of the root directory's inode come zeros
 unnamed_zero : (order : Order) (size block moment : ℕ) → are_zero (drop 102 (bytes_of_inode order (top_inode size block moment))) ≡ true
@@ -164,8 +163,8 @@ module _ (v : NewBlocks) where
     pub bits_agree : (b : ℕ) → b < g.bitmap_leaves * g.blocksize * 8 → bit_differs m bitmap g (top_block g ∷ []) b ≡ false
     bits_agree b low =
         ap (λ x. not (x == bit_of (must_be_set m g (top_block g ∷ []) b))) (new_bit v which b low)
-        ∙ ap (λ x. not (bit_of (is_taken g b) == bit_of x)) (at_or_below b (top_block g) (nat_le g.num_blocks b))
-        ∙ ap not (eq-eqb (bit_of (is_taken g b)) (bit_of (is_taken g b)) refl)
+        ∙ ap (λ x. not (bit_of (is_taken g (is_top g) b) == bit_of x)) (one_held b (top_block g) (nat_le g.num_blocks b))
+        ∙ ap not (eq-eqb (bit_of (is_taken g (is_top g) b)) (bit_of (is_taken g (is_top g) b)) refl)
 
     -- ---- nodes and records
 

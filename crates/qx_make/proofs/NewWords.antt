@@ -1,5 +1,5 @@
 -- The words of a new volume's pointer blocks lead to the blocks of the level below.
-use Rattle.std.proofs.Common.{◌≡◌, ℕ, suc, ◌+◌, ◌-◌, ◌*◌, ◌≤◌, ◌<◌, ◌^◌, List, Bool, true, refl, ap, ◌∙◌, arith}
+use Rattle.std.proofs.Common.{◌≡◌, ℕ, suc, ◌+◌, ◌-◌, ◌*◌, ◌≤◌, ◌<◌, ◌^◌, List, true, refl, ap, ◌∙◌, arith}
 use Rattle.std.specs.Prelude.{◌==◌, nat_lt}
 use Rattle.std.specs.List.{list_all}
 use Rattle.std.proofs.lemmas.Bool.{cond-true, cond_both, eq-eqb, lt-ltb, ltb-true}
@@ -16,7 +16,7 @@ use Rattle.qx_geom.proofs.VolumeNumbers.{IsGeometry-keeps, tree-below}
 use Rattle.qx_geom.proofs.Members.{all_below}
 use Rattle.qx_nodes.specs.BlockMap.{word}
 use Rattle.qx_view.specs.Sound.{has_system_words, is_system_tree}
-use Rattle.qx_make.specs.Blocks.{pointer_block_bytes}
+use Rattle.qx_system.specs.SystemBytes.{pointer_block_bytes}
 use Rattle.qx_make.proofs.NewBlocks.{NewBlocks, blocks, pointer_bytes}
 use Rattle.qx_make.proofs.NumbersInRows.{field_digits}
 

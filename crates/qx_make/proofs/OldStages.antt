@@ -1,5 +1,5 @@
 -- The stages that zero the old areas, behind calls that only read.
-use Rattle.std.proofs.Common.{◌≡◌, ℕ, Result, Ok, Err, IsErr, OnOk, Option, List, [], ◌∷◌, ◌++◌, length, refl, ap, sym, ◌∙◌, subst, arith}
+use Rattle.std.proofs.Common.{◌≡◌, ℕ, Result, Ok, Err, IsErr, OnOk, List, [], ◌∷◌, ◌++◌, refl, ap, sym, ◌∙◌, subst, arith}
 use Rattle.std.specs.Prelude.{Contains, IsTrue}
 use Rattle.qx_outside.specs.Calls.{Idles}
 use Rattle.qx_outside.specs.Moments.{HoldsThroughout, Moves, Reaches}

@@ -4,7 +4,7 @@ use Rattle.std.specs.List.{flat_map, range_with_len}
 use Rattle.std.specs.Prelude.{slice_range}
 use Rattle.std.proofs.lemmas.List.{drop-drop, drop_at, length-take-le, take_at}
 use Rattle.qx_outside.specs.Ranges.{put_at}
-use Rattle.qx_make.proofs.PartsInOrder.{length-parts, take_put}
+use Rattle.qx_system.proofs.PartsInOrder.{length-parts, take_put}
 
 -- what stands behind bytes that were put
 drop_put : (bytes others : List ℕ) (at : ℕ) → at ≤ length bytes → drop (at + length others) (put_at bytes at others) ≡ drop (at + length others) bytes

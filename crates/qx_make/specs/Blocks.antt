@@ -1,18 +1,15 @@
 -- What the maker writes into the blocks of both halves, and into the root directory's block behind them.
-use Rattle.std.specs.Prelude.{ℕ, ◌≡◌, ◌+◌, ◌*◌, ◌-◌, ◌^◌, ◌≤◌, Bool, true, false, ◌||◌, List, [], ◌∷◌, ◌++◌, flat_map, replicate, sum_by, nat_le, nat_lt, ◌==◌, if◌then◌else◌}
-use Rattle.std.specs.List.{range_with_len}
+use Rattle.std.specs.Prelude.{ℕ, ◌≡◌, ◌+◌, ◌*◌, ◌-◌, ◌≤◌, Bool, List, [], ◌∷◌, ◌++◌, replicate, nat_lt, ◌==◌, if◌then◌else◌}
 use Rattle.qx_fields.specs.declared.order.Order.{Order}
-use Rattle.qx_fields.specs.Number.{digits}
-use Rattle.qx_geom.specs.declared.system.SystemTree.{SystemTree}
 use Rattle.qx_geom.specs.declared.system.SystemTree.TheVariants as trees
 use Rattle.qx_geom.specs.declared.area.Which.{Which}
 use Rattle.qx_geom.specs.declared.area.Which.TheVariants.{First, Second}
 use Rattle.qx_geom.specs.declared.geometry.Geometry.{Geometry}
-use Rattle.qx_geom.specs.Lists.{each_below}
 use Rattle.qx_geom.specs.declared.root.Root.{Root}
-use Rattle.qx_geom.specs.Pointer.{absent, per_block}
-use Rattle.qx_geom.specs.Layout.{first_block, system_word_of}
+use Rattle.qx_geom.specs.Pointer.{absent}
+use Rattle.qx_geom.specs.Layout.{first_block}
 use Rattle.qx_nodes.specs.BlockMap.{BlockMap}
+use Rattle.qx_system.specs.SystemBytes.{bitmap_leaf_bytes, pointer_block_bytes}
 use Rattle.qx_records.specs.declared.inode.Inode.{Inode}
 use Rattle.qx_records.specs.WrittenInode.{inode_bytes}
 use Rattle.qx_records.specs.WrittenNames.{short_bytes}
@@ -46,29 +43,11 @@ top_inode size block moment = record {
 unfoldable pub top_directory_bytes : Order → ℕ → List ℕ
 top_directory_bytes order blocksize = short_bytes order 1 (46 ∷ []) ++ (short_bytes order 1 (46 ∷ 46 ∷ []) ++ replicate (blocksize - 64) 0)
 
--- ---- the bitmap
-
--- block b is held, or is no block
-abbrev pub is_taken : Geometry → ℕ → Bool
-is_taken g b = nat_le b (top_block g) || nat_le g.num_blocks b
-
--- the byte whose bits these tests give, the lowest first
-abbrev pub byte_of_bits : (ℕ → Bool) → ℕ
-byte_of_bits test = sum_by (λ j. if test j then 2 ^ j else 0) (range_with_len 0 8)
-
--- byte k of the bitmap, to the end of its last leaf
-unfoldable pub bitmap_byte : Geometry → ℕ → ℕ
-bitmap_byte g k = byte_of_bits (λ j. is_taken g (8 * k + j))
-
--- leaf i of the bitmap
-unfoldable pub bitmap_leaf_bytes : Geometry → ℕ → List ℕ
-bitmap_leaf_bytes g i = each_below g.blocksize (λ k. bitmap_byte g (i * g.blocksize + k))
+-- it alone is held beside both halves
+abbrev pub is_top : Geometry → ℕ → Bool
+is_top g b = top_block g == b
 
 -- ---- a half
-
--- a pointer block of an area's Bitmap or Inode tree
-unfoldable pub pointer_block_bytes : Geometry → Order → Which → SystemTree → ℕ → List ℕ
-pointer_block_bytes g order which tree b = flat_map (λ w. digits order 4 (system_word_of g which tree b w)) (range_with_len 0 (per_block g.blocksize))
 
 -- leaf i of the Inode tree, where inode 1 alone is live
 unfoldable pub inode_leaf_bytes : Geometry → Order → ℕ → ℕ → List ℕ
@@ -78,7 +57,7 @@ inode_leaf_bytes g order moment i =
 -- block r of an area's half: bitmap leaves, bitmap pointer blocks, inode leaves, inode pointer blocks
 abbrev pub half_block_bytes : Geometry → Order → ℕ → Which → ℕ → List ℕ
 half_block_bytes g order moment which r =
-    if nat_lt r g.bitmap_leaves then bitmap_leaf_bytes g r
+    if nat_lt r g.bitmap_leaves then bitmap_leaf_bytes g (is_top g) r
     else if nat_lt r (g.bitmap_leaves + g.bitmap_pointers) then pointer_block_bytes g order which trees.Bitmap (first_block g which + r)
     else if nat_lt r (g.bitmap_leaves + g.bitmap_pointers + g.inode_leaves) then inode_leaf_bytes g order moment (r - (g.bitmap_leaves + g.bitmap_pointers))
     else pointer_block_bytes g order which trees.Inodes (first_block g which + r)

@@ -1,5 +1,5 @@
 -- The two superblocks of a new volume.
-use Rattle.std.specs.Prelude.{ℕ, ◌-◌, List, true, false}
+use Rattle.std.specs.Prelude.{ℕ, ◌-◌, List}
 use Rattle.qx_fields.specs.declared.order.Order.{Order}
 use Rattle.qx_geom.specs.declared.system.SystemTree.TheVariants as trees
 use Rattle.qx_geom.specs.declared.area.Which.{Which}

@@ -1,12 +1,13 @@
 //! The blocks of a new volume, one after another.
 ghost use Rattle.std.specs.Prelude.{◌≡◌, ◌+◌, ◌*◌, ◌^◌, ◌≤◌, ◌<◌, flat_map, length};
 ghost use Rattle.std.specs.List.{range_with_len};
-ghost use Rattle.qx_geom.specs.Layout.{IsGeometry, IsPointerBlock};
-ghost use Rattle.qx_make.specs.Blocks.{bitmap_byte, bitmap_leaf_bytes, half_block_bytes, inode_leaf_bytes, is_taken, made_block_bytes, pointer_block_bytes, top_block, top_directory_bytes, top_inode};
+ghost use Rattle.qx_geom.specs.Layout.{IsGeometry};
+ghost use Rattle.qx_make.specs.Blocks.{half_block_bytes, inode_leaf_bytes, made_block_bytes, top_block, top_directory_bytes, top_inode};
 
-use qx_fields::{Order, put32};
+use qx_fields::Order;
 use qx_geom::{ABSENT, Geometry, Root, SystemTree, Which};
 use qx_records::{Inode, write_inode, write_short};
+use qx_system::{OneBlock, fill_bitmap_leaf, fill_pointer_block};
 
 /// The volume that is made.
 #[derive(Clone, Copy)]
@@ -23,81 +24,6 @@ const TOP_MODE: u16 = 0o40755;
 
 /// An inode's status where it is a directory's (this project's own).
 const DIRECTORY_STATUS: u8 = 1;
-
-/// Whether a bit of the bitmap is 1: its block is held, or there is no such block.
-fn is_bit_set(geometry: &Geometry, bit: u64) -> bool
-    requires { IsGeometry geometry.now }
-    ensures { result ≡ is_taken geometry.now bit }
-{
-    bit <= 2 * u64::from(geometry.half) || u64::from(geometry.num_blocks) <= bit
-}
-
-/// A byte of the bitmap, bit by bit.
-#[tactic(auto, unfolding(crate::specs::Blocks::bitmap_byte))]
-fn byte_by_bits(geometry: &Geometry, index: u64) -> u8
-    requires geometry { IsGeometry geometry.now }
-    requires index { index < 2 ^ 32 }
-    ensures { result ≡ bitmap_byte geometry.now index }
-{
-    let mut byte = 0;
-    for bit in 0..8u8 {
-        if is_bit_set(geometry, 8 * index + u64::from(bit)) {
-            byte += 1 << bit;
-        }
-    }
-    byte
-}
-
-/// A byte of the bitmap. Nearly all of them say of 8 blocks that each is held, or that none is.
-#[tactic(auto, unfolding(crate::specs::Blocks::bitmap_byte))]
-fn byte_of_bitmap(geometry: &Geometry, index: u64) -> u8
-    requires geometry { IsGeometry geometry.now }
-    requires index { index < 2 ^ 32 }
-    ensures { result ≡ bitmap_byte geometry.now index }
-{
-    let first = 8 * index;
-    let top = 2 * u64::from(geometry.half);
-    if first + 7 <= top {
-        return 0xFF;
-    }
-    if top < first && first + 8 <= u64::from(geometry.num_blocks) {
-        return 0;
-    }
-    byte_by_bits(geometry, index)
-}
-
-/// Fills a leaf of the bitmap.
-fn fill_bitmap_leaf(geometry: &Geometry, leaf: u32, into: &mut [u8])
-    requires geometry { IsGeometry geometry.now }
-    requires leaf { leaf < geometry.now.bitmap_leaves }
-    requires into { length into.old ≡ geometry.now.blocksize }
-    ensures { into.new ≡ bitmap_leaf_bytes geometry.now leaf }
-{
-    let first = u64::from(leaf) * u64::from(geometry.blocksize);
-    for (index, byte) in into.iter_mut().enumerate() {
-        *byte = byte_of_bitmap(geometry, first + index as u64);
-    }
-}
-
-/// Fills a pointer block of one of the four system trees.
-fn fill_pointer_block(
-    geometry: &Geometry,
-    order: Order,
-    which: Which,
-    tree: SystemTree,
-    block: u32,
-    into: &mut [u8],
-)
-    requires geometry { IsGeometry geometry.now }
-    requires block { IsPointerBlock geometry.now which tree block }
-    requires into { length into.old ≡ geometry.now.blocksize }
-    ensures { into.new ≡ pointer_block_bytes geometry.now order which tree block }
-{
-    for word in 0..geometry.blocksize / 4 {
-        let pointer = geometry.tree_word(which, tree, block, word);
-        put32(order, into, 4 * word as usize, pointer);
-    }
-}
 
 /// A new directory's inode: one block of this size in bytes.
 fn directory_inode(size: u32, block: u32, moment: u32) -> Inode
@@ -159,7 +85,10 @@ fn fill_half_block(volume: &NewVolume, which: Which, index: u32, into: &mut [u8]
     let first = geometry.first_block(which);
     let bitmap_blocks = geometry.bitmap_leaves + geometry.bitmap_pointers;
     if index < geometry.bitmap_leaves {
-        fill_bitmap_leaf(geometry, index, into);
+        let held = OneBlock {
+            number: 2 * geometry.half,
+        };
+        fill_bitmap_leaf(geometry, &held, index, into);
     } else if index < bitmap_blocks {
         fill_pointer_block(
             geometry,

@@ -27,7 +27,8 @@ use Rattle.qx_view.specs.Sound.{bit_differs, is_laid_out, must_be_set, outer_blo
 use Rattle.qx_view.specs.Usage.{met_blocks}
 use Rattle.qx_view.specs.Walk.{finding_of}
 use Rattle.qx_walk.proofs.OuterBlocks.{count_marked, met_counted, met_differ, outer_inside, outer_length, outer_outside}
-use Rattle.qx_walk.specs.Bitmaps.{is_wanted, is_wrong_bit}
+use Rattle.qx_system.specs.SystemBytes.{is_taken}
+use Rattle.qx_walk.specs.Bitmaps.{is_wrong_bit}
 use Rattle.qx_walk.specs.Layouts.{has_block_of_half}
 use Rattle.qx_pointers.specs.Marks.{Marks}
 
@@ -132,7 +133,7 @@ module _ (m : BlockMap) (s : Superblock) (room : HasSize m) (none : finding_of m
           ap (λ x. not x) there
 
   -- a bit must be set by the outer blocks exactly where it must be by those that were met
-  wanted_same : (b : ℕ) → must_be_set m g (outer_blocks m (main_roots s)) b ≡ is_wanted g set b
+  wanted_same : (b : ℕ) → must_be_set m g (outer_blocks m (main_roots s)) b ≡ is_taken g (has set) b
   wanted_same b = go (nat_lt b (2 * g.half)) refl
     where
       counted : nat_le m.count b ≡ nat_le g.num_blocks b

@@ -7,7 +7,7 @@ ghost use Rattle.qx_geom.specs.Lists.{first_below};
 ghost use Rattle.qx_nodes.specs.BlockMap.{BlockMap};
 ghost use Rattle.qx_pointers.specs.Halts.{HaltsAt, IsCaused};
 ghost use Rattle.qx_walk.specs.Layouts.{IsVolumeOf};
-ghost use Rattle.qx_walk.specs.Bitmaps.{is_wanted, is_wrong_bit, is_wrong_in, IsFirst, IsWantedByte};
+ghost use Rattle.qx_walk.specs.Bitmaps.{is_wrong_bit, is_wrong_in, IsFirst};
 ghost use Rattle.qx_pointers.specs.Shown.{Fits, JustReads, Shows};
 ghost use Rattle.qx_view.specs.declared.findings.Finding.{Finding};
 
@@ -15,6 +15,7 @@ use qx_blockset::BlockSet;
 use qx_geom::{Geometry, Which};
 use qx_outside::Dev;
 use qx_pointers::{Halt, Shape, read_block};
+use qx_system::bitmap_byte;
 
 /// The first block whose bit in the half's bitmap isn't as it must be: 1 for both halves, for blocks that were met, and past the last block.
 pub(crate) fn first_wrong_bit<D: Dev>(
@@ -80,60 +81,11 @@ fn first_wrong_in(geometry: &Geometry, met: &BlockSet, begin: u64, bytes: &[u8])
 {
     for index in 0..bytes.len() {
         let place = begin + index as u64;
-        let wanted = wanted_byte(geometry, met, place);
+        let wanted = bitmap_byte(geometry, met, place);
         if bytes[index] != wanted {
             let differing = bytes[index] ^ wanted;
             return Some(place * 8 + u64::from(differing.trailing_zeros()));
         }
     }
     None
-}
-
-/// What a byte of the bitmap must be.
-fn wanted_byte(geometry: &Geometry, met: &BlockSet, place: u64) -> u8
-    requires geometry { IsGeometry geometry.now }
-    requires met { limit_of met.now ≡ geometry.now.num_blocks }
-    requires place { place < 2 ^ 60 }
-    ensures { IsWantedByte geometry.now met.now place result }
-{
-    let halves = 2 * u64::from(geometry.half);
-    let count = u64::from(geometry.num_blocks);
-    let first = place * 8;
-    if first + 8 <= halves {
-        return 0xFF;
-    }
-    if count <= first {
-        return 0xFF;
-    }
-    if halves <= first && first + 8 <= count {
-        return met.byte(place as u32);
-    }
-    byte_by_bits(geometry, met, place)
-}
-
-/// What a byte of the bitmap must be where it is at an end of the user's blocks.
-fn byte_by_bits(geometry: &Geometry, met: &BlockSet, place: u64) -> u8
-    requires geometry { IsGeometry geometry.now }
-    requires met { limit_of met.now ≡ geometry.now.num_blocks }
-    requires place { place < 2 ^ 60 }
-    ensures { IsWantedByte geometry.now met.now place result }
-{
-    let mut byte: u8 = 0;
-    for bit in 0..8u8 {
-        if is_wanted(geometry, met, place * 8 + u64::from(bit)) {
-            byte |= 1 << bit;
-        }
-    }
-    byte
-}
-
-/// Whether a bit of the bitmap must be 1.
-fn is_wanted(geometry: &Geometry, met: &BlockSet, number: u64) -> bool
-    requires geometry { IsGeometry geometry.now }
-    requires met { limit_of met.now ≡ geometry.now.num_blocks }
-    ensures { result ≡ is_wanted geometry.now met.now number }
-{
-    number < 2 * u64::from(geometry.half)
-        || u64::from(geometry.num_blocks) <= number
-        || met.has(number as u32)
 }

@@ -3,7 +3,7 @@ use Rattle.std.proofs.Math.Nat.{mul-le-mul_right}
 use Rattle.std.specs.List.{flat_map, range_with_len}
 use Rattle.qx_geom.proofs.VolumeNumbers.{IsGeometry-keeps}
 use Rattle.qx_make.specs.Blocks.{made_block_bytes}
-use Rattle.qx_make.proofs.PartsInOrder.{parts_more, take_part}
+use Rattle.qx_system.proofs.PartsInOrder.{parts_more, take_part}
 use Rattle.qx_make.proofs.blocks.fill_blocks.Goals as goal
 
 pub overflow_add-first : goal.overflow_add-first

@@ -16,3 +16,9 @@ overflow_add-first-else-index-bitmap_blocks-2 c = let v = IsGeometry-keeps c.arg
 
 pub fill_pointer_block-requires-else-index-bitmap_blocks-2-clause-block : goal.fill_pointer_block-requires-else-index-bitmap_blocks-2-clause-block
 fill_pointer_block-requires-else-index-bitmap_blocks-2-clause-block c = let v = IsGeometry-keeps c.args.volume.now.geometry c.requires.geometry in record { from = omega (arith, v.parts, c.first_block-first.ensures.first); to = omega (arith, v.parts, c.requires.index, c.first_block-first.ensures.first) }
+
+pub overflow_mul-held : goal.overflow_mul-held
+overflow_mul-held c = let v = IsGeometry-keeps c.args.volume.now.geometry c.requires.geometry in record { fits = omega (arith, v.room, v.blocks_to) }
+
+pub fill_bitmap_leaf-requires-clause-held : goal.fill_bitmap_leaf-requires-clause-held
+fill_bitmap_leaf-requires-clause-held c = let v = IsGeometry-keeps c.args.volume.now.geometry c.requires.geometry in omega (arith, v.blocks_to)

@@ -3,7 +3,8 @@ use Rattle.std.proofs.Common.{refl}
 use Rattle.qx_geom.specs.Layout.{levels_for, pointer_blocks, pointer_place, system_word_of, tree_blocks}
 use Rattle.qx_records.specs.WrittenInode.{inode_bytes}
 use Rattle.qx_records.specs.WrittenNames.{short_bytes}
-use Rattle.qx_make.specs.Blocks.{bitmap_byte, bitmap_leaf_bytes, inode_leaf_bytes, made_block_bytes, pointer_block_bytes, top_directory_bytes}
+use Rattle.qx_make.specs.Blocks.{inode_leaf_bytes, made_block_bytes, top_directory_bytes}
+use Rattle.qx_system.specs.SystemBytes.{bitmap_byte, bitmap_leaf_bytes, pointer_block_bytes}
 use Rattle.qx_make.proofs.laws.the_blocks_by_the_tables.Goals as goal
 
 pub returns-clause-bitmap : goal.returns-clause-bitmap

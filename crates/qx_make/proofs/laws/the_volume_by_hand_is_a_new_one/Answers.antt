@@ -6,7 +6,8 @@ use Rattle.qx_model.specs.EmptyTree.{empty_tree}
 use Rattle.qx_view.specs.Examples.{made_block}
 use Rattle.qx_records.specs.WrittenInode.{inode_bytes}
 use Rattle.qx_records.specs.WrittenNames.{short_bytes}
-use Rattle.qx_make.specs.Blocks.{bitmap_byte, bitmap_leaf_bytes, inode_leaf_bytes, made_block_bytes, pointer_block_bytes, top_block, top_directory_bytes}
+use Rattle.qx_make.specs.Blocks.{inode_leaf_bytes, made_block_bytes, top_block, top_directory_bytes}
+use Rattle.qx_system.specs.SystemBytes.{bitmap_byte, bitmap_leaf_bytes, pointer_block_bytes}
 use Rattle.qx_make.proofs.laws.the_volume_by_hand_is_a_new_one.Goals as goal
 
 -- the blocks of both halves, and the root directory's

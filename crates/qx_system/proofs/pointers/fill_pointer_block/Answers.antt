@@ -5,10 +5,10 @@ use Rattle.qx_fields.specs.Number.{digits, put_field}
 use Rattle.qx_fields.proofs.Fields.{length_digits}
 use Rattle.qx_geom.specs.Layout.{system_word_of}
 use Rattle.qx_geom.proofs.VolumeNumbers.{IsGeometry-keeps}
-use Rattle.qx_make.specs.Blocks.{pointer_block_bytes}
-use Rattle.qx_make.proofs.PartsInOrder.{parts_more, take_put}
-use Rattle.qx_make.proofs.WholeBlocks.{block_size-words}
-use Rattle.qx_make.proofs.blocks.fill_pointer_block.Goals as goal
+use Rattle.qx_system.specs.SystemBytes.{pointer_block_bytes}
+use Rattle.qx_system.proofs.PartsInOrder.{parts_more, take_put}
+use Rattle.qx_system.proofs.WholeBlocks.{block_size-words}
+use Rattle.qx_system.proofs.pointers.fill_pointer_block.Goals as goal
 
 pub loop-word-preserved : goal.loop-word-preserved
 unfolding put_field

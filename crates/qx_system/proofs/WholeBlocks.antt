@@ -1,4 +1,4 @@
--- A block has whole words, and an area whole blocks.
+-- A block has whole words.
 use Rattle.std.proofs.Common.{◌≡◌, ℕ, ◌*◌, ◌/◌, true, ◌==◌, eqb-true, ⊎_elim, arith}
 use Rattle.std.proofs.lemmas.Bool.{or_cases}
 use Rattle.qx_geom.specs.Layout.{is_block_size}

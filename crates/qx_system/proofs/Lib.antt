@@ -1,0 +1,4 @@
+pub mod TakenBits
+pub mod OneBit
+pub mod PartsInOrder
+pub mod WholeBlocks
