@@ -1,6 +1,8 @@
 -- The maker's way: what it puts between one good sync and the next, and over which bytes.
 use Rattle.std.specs.Prelude.{ℕ, ◌≡◌, IsTrue, Bool, Result, OnOk, ◌+◌, ◌-◌, List, [], ◌∷◌, ◌++◌, ◌⊎◌, flat_map, length, min, replicate, Option, Some, None, Contains}
 use Rattle.std.specs.List.{range_with_len}
+use Rattle.qx_outside.specs.Calls.{LeavesRest}
+use Rattle.qx_outside.specs.Causes.{HasCause}
 use Rattle.qx_outside.specs.Moments.{Moves, Reaches}
 use Rattle.qx_outside.specs.Puts.{HasPut, IsAtRest, IsPutting, Put, PutsOrRests, with_puts}
 use Rattle.qx_outside.specs.Outside.{Outside}
@@ -36,7 +38,12 @@ pub record Performs {T E : Type 0} (stage : Stage) (result : Result T E) (old ne
   pub kept : OnOk result (IsTrue new.tells → bytes_of old.history ≡ stage.kept → IsAtRest (after_stage stage) new.history)
   pub others : IsTrue new.tells → others_of new.history.deeds ≡ others_of old.history.deeds
 
--- the same, but where it is Ok all is put and not yet kept
+-- it writes and syncs alone: it leaves the rest of the outside, and an Err comes only where the count of faults rose
+pub record JustWrites {T E : Type 0} (old new : Outside) (result : Result T E) : Type 0 where
+  pub rest : LeavesRest old new
+  pub cause : HasCause old.dev_faults new.dev_faults result
+
+-- the same as `Performs`, but where it is Ok all is put and not yet kept
 pub record PutsAll {T E : Type 0} (stage : Stage) (result : Result T E) (old new : Outside) : Type 0 where
   pub reaches : Reaches (IsAtRest stage.kept) (Passes stage) old new
   pub ok : OnOk result (Moves (IsAtRest stage.kept) (HasPut stage.kept stage.puts (after_stage stage)) (Passes stage) old new)

@@ -1,9 +1,7 @@
 //! Superblock areas: zeroed, so that nothing is found there, or filled.
 ghost use Rattle.std.specs.Prelude.{◌≡◌, ℕ, ◌-◌, ◌≤◌, List, length, min, replicate, IfSome};
-ghost use Rattle.qx_outside.specs.Causes.{HasCause};
-ghost use Rattle.qx_outside.specs.Calls.{LeavesRest};
 ghost use Rattle.qx_geom.specs.Layout.{IsGeometry};
-ghost use Rattle.qx_make.specs.Stages.{Performs, areas_stage, zero_stage};
+ghost use Rattle.qx_make.specs.Stages.{JustWrites, Performs, areas_stage, zero_stage};
 
 use qx_geom::{Geometry, Which};
 use qx_outside::{Dev, Failed};
@@ -22,9 +20,9 @@ fn zeros_within(len: u64, place: u64) -> &'static [u8]
 /// Zeroes the area at a place, as far as the device of `len` bytes has it, and has that kept.
 pub fn zero_area<D: Dev>(host: &mut D, len: u64, place: u64) -> Result<(), Failed>
     requires len { IfSome (D.outside host.old).extent (λ n. n ≡ len) }
-    ensures stage { (bytes : List ℕ) → length bytes ≡ len → Performs (zero_stage bytes place) result (D.outside host.old) (D.outside host.new) }
-    ensures others { LeavesRest (D.outside host.old) (D.outside host.new) }
-    ensures cause { HasCause (D.outside host.old).dev_faults (D.outside host.new).dev_faults result }
+    ensures stage { (bytes : List ℕ) → length bytes ≡ len
+        → Performs (zero_stage bytes place) result (D.outside host.old) (D.outside host.new) }
+    ensures others { JustWrites (D.outside host.old) (D.outside host.new) result }
 {
     let zeros = zeros_within(len, place);
     if zeros.is_empty() {
@@ -47,9 +45,9 @@ pub fn put_into_areas<D: Dev>(
     requires len { IfSome (D.outside host.old).extent (λ n. geometry.now.len4 ≤ n) }
     requires first { length first.now ≤ 4096 }
     requires second { length second.now ≤ 4096 }
-    ensures stage { (bytes : List ℕ) → geometry.now.len4 ≤ length bytes → Performs (areas_stage geometry.now first.now second.now bytes) result (D.outside host.old) (D.outside host.new) }
-    ensures others { LeavesRest (D.outside host.old) (D.outside host.new) }
-    ensures cause { HasCause (D.outside host.old).dev_faults (D.outside host.new).dev_faults result }
+    ensures stage { (bytes : List ℕ) → geometry.now.len4 ≤ length bytes
+        → Performs (areas_stage geometry.now first.now second.now bytes) result (D.outside host.old) (D.outside host.new) }
+    ensures others { JustWrites (D.outside host.old) (D.outside host.new) result }
 {
     host.write_at(geometry.area(Which::First), first)?;
     host.write_at(geometry.area(Which::Second), second)?;

@@ -1,9 +1,7 @@
 //! Both halves and the root directory, written in large pieces.
 ghost use Rattle.std.specs.Prelude.{◌≡◌, ◌*◌, ◌≤◌, ◌+◌, ℕ, List, length, IfSome};
-ghost use Rattle.qx_outside.specs.Calls.{LeavesRest};
-ghost use Rattle.qx_outside.specs.Causes.{HasCause};
 ghost use Rattle.qx_geom.specs.Layout.{IsGeometry};
-ghost use Rattle.qx_make.specs.Stages.{Performs, PutsAll, blocks_stage};
+ghost use Rattle.qx_make.specs.Stages.{JustWrites, Performs, PutsAll, blocks_stage};
 
 use crate::blocks::{NewVolume, fill_blocks};
 use qx_outside::{Dev, Failed};
@@ -15,9 +13,9 @@ const PIECE: usize = 65536;
 fn write_pieces<D: Dev>(host: &mut D, volume: &NewVolume) -> Result<(), Failed>
     requires geometry { IsGeometry volume.now.geometry }
     requires len { IfSome (D.outside host.old).extent (λ n. volume.now.geometry.len4 ≤ n) }
-    ensures stage { (bytes : List ℕ) → volume.now.geometry.len4 ≤ length bytes → PutsAll (blocks_stage volume.now.geometry volume.now.order volume.now.moment bytes) result (D.outside host.old) (D.outside host.new) }
-    ensures others { LeavesRest (D.outside host.old) (D.outside host.new) }
-    ensures cause { HasCause (D.outside host.old).dev_faults (D.outside host.new).dev_faults result }
+    ensures stage { (bytes : List ℕ) → volume.now.geometry.len4 ≤ length bytes
+        → PutsAll (blocks_stage volume.now.geometry volume.now.order volume.now.moment bytes) result (D.outside host.old) (D.outside host.new) }
+    ensures others { JustWrites (D.outside host.old) (D.outside host.new) result }
 {
     let blocks = 2 * volume.geometry.half + 1;
     let size = volume.geometry.blocksize as usize;
@@ -37,9 +35,9 @@ fn write_pieces<D: Dev>(host: &mut D, volume: &NewVolume) -> Result<(), Failed>
 pub fn write_blocks<D: Dev>(host: &mut D, volume: &NewVolume) -> Result<(), Failed>
     requires geometry { IsGeometry volume.now.geometry }
     requires len { IfSome (D.outside host.old).extent (λ n. volume.now.geometry.len4 ≤ n) }
-    ensures stage { (bytes : List ℕ) → volume.now.geometry.len4 ≤ length bytes → Performs (blocks_stage volume.now.geometry volume.now.order volume.now.moment bytes) result (D.outside host.old) (D.outside host.new) }
-    ensures others { LeavesRest (D.outside host.old) (D.outside host.new) }
-    ensures cause { HasCause (D.outside host.old).dev_faults (D.outside host.new).dev_faults result }
+    ensures stage { (bytes : List ℕ) → volume.now.geometry.len4 ≤ length bytes
+        → Performs (blocks_stage volume.now.geometry volume.now.order volume.now.moment bytes) result (D.outside host.old) (D.outside host.new) }
+    ensures others { JustWrites (D.outside host.old) (D.outside host.new) result }
 {
     write_pieces(host, volume)?;
     host.sync()?;

@@ -16,19 +16,23 @@ ghost use Rattle.qx_make.specs.NewVolume.{HasNewVolume, made_superblock, new_roo
 
 /// What the maker writes means the empty tree, from the roots of either half.
 pub fn a_new_volume_has_the_empty_tree()
-    ensures { (m : BlockMap) (g : Geometry) (order : Order) (moment : ℕ) (which : Which) → IsGeometry g → moment < 2 ^ 32 → AreMade g order moment m
+    ensures { (m : BlockMap) (g : Geometry) (order : Order) (moment : ℕ) (which : Which) → IsGeometry g
+        → moment < 2 ^ 32 → AreMade g order moment m
         → IsTreeOf m (new_roots g which) (empty_tree g.blocksize g.num_inodes moment) }
 {}
 
 /// For the superblock that the maker writes into an area no reason applies and nothing is found last, and the image is sound with the empty tree.
 pub fn a_new_volume_is_sound()
-    ensures reason { (m : BlockMap) (g : Geometry) (order : Order) (moment serial len : ℕ) (which : Which) → geometry_of len g.blocksize g.num_inodes ≡ Ok g
+    ensures reason { (m : BlockMap) (g : Geometry) (order : Order) (moment serial len : ℕ) (which : Which)
+        → geometry_of len g.blocksize g.num_inodes ≡ Ok g
         → moment < 2 ^ 32 → AreMade g order moment m
         → reason_of m (made_superblock g order moment serial which) which len ≡ None }
-    ensures last { (m : BlockMap) (g : Geometry) (order : Order) (moment serial len : ℕ) (which : Which) → geometry_of len g.blocksize g.num_inodes ≡ Ok g
+    ensures last { (m : BlockMap) (g : Geometry) (order : Order) (moment serial len : ℕ) (which : Which)
+        → geometry_of len g.blocksize g.num_inodes ≡ Ok g
         → moment < 2 ^ 32 → AreMade g order moment m
         → last_finding m (made_superblock g order moment serial which) len ≡ None }
-    ensures sound { (img : List ℕ) (g : Geometry) (order : Order) (moment serial : ℕ) (which : Which) → HasNewVolume img g order moment serial which
+    ensures sound { (img : List ℕ) (g : Geometry) (order : Order) (moment serial : ℕ) (which : Which)
+        → HasNewVolume img g order moment serial which
         → IsSound img (empty_tree g.blocksize g.num_inodes moment) }
 {}
 

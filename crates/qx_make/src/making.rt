@@ -1,12 +1,12 @@
 //! The maker's way: the old areas are zeroed, the length is set, and the new volume is written from its blocks to its superblocks.
 ghost use Rattle.std.specs.Prelude.{◌≡◌, ◌<◌, ◌≤◌, ◌^◌, ◌-◌, ◌∷◌, [], ◌++◌, ℕ, List, length, IfOk, IfSome, OnOk, IsTrue, Err, Ok};
-ghost use Rattle.qx_outside.specs.Calls.{LeavesConsole, LeavesRest};
+ghost use Rattle.qx_outside.specs.Calls.{LeavesConsole};
 ghost use Rattle.qx_outside.specs.Causes.{HasCause, Rose};
 ghost use Rattle.qx_outside.specs.Trail.{bytes_of};
 ghost use Rattle.qx_geom.specs.Layout.{IsGeometry};
 ghost use Rattle.qx_geom.specs.declared.geometry.GeomFault.{GeomFault};
 ghost use Rattle.qx_geom.specs.declared.geometry.Geometry.{Geometry};
-ghost use Rattle.qx_make.specs.Stages.{AsksOneLength, MakesAll, Performs, PerformsAll, made_bytes, make_stages, new_stages, old_places, old_stages, places_by, places_of_two, rest_stage, supers_stage, with_volume, zero_stages, zeroed};
+ghost use Rattle.qx_make.specs.Stages.{JustWrites, AsksOneLength, MakesAll, Performs, PerformsAll, made_bytes, make_stages, new_stages, old_places, old_stages, places_by, places_of_two, rest_stage, supers_stage, with_volume, zero_stages, zeroed};
 ghost use Rattle.qx_make.specs.declared.options.MakeFault.TheVariants as faults;
 ghost use Rattle.qx_make.specs.Make.{HasMade, KeepsQuiet, MakesAtEachMoment, geometry_for, made_of};
 ghost use Rattle.qx_make.specs.Superblocks.{made_super};
@@ -73,8 +73,7 @@ fn zero_both<D: Dev>(host: &mut D, len: u64, one: u64, last: u64) -> Result<(), 
     requires len { IfSome (D.outside host.old).extent (λ n. n ≡ len) }
     ensures stages { (bytes : List ℕ) → length bytes ≡ len
         → PerformsAll bytes (zeroed bytes (one ∷ last ∷ [])) (zero_stages bytes (one ∷ last ∷ []) ++ rest_stage (zeroed bytes (one ∷ last ∷ [])) ∷ []) result (D.outside host.old) (D.outside host.new) }
-    ensures others { LeavesRest (D.outside host.old) (D.outside host.new) }
-    ensures cause { HasCause (D.outside host.old).dev_faults (D.outside host.new).dev_faults result }
+    ensures others { JustWrites (D.outside host.old) (D.outside host.new) result }
 {
     zero_area(host, len, one)?;
     zero_area(host, len, last)
@@ -85,8 +84,7 @@ fn zero_places<D: Dev>(host: &mut D, len: u64, one: u64, last: Option<u64>) -> R
     requires len { IfSome (D.outside host.old).extent (λ n. n ≡ len) }
     ensures stages { (bytes : List ℕ) → length bytes ≡ len
         → PerformsAll bytes (zeroed bytes (places_of_two one last)) (zero_stages bytes (places_of_two one last) ++ rest_stage (zeroed bytes (places_of_two one last)) ∷ []) result (D.outside host.old) (D.outside host.new) }
-    ensures others { LeavesRest (D.outside host.old) (D.outside host.new) }
-    ensures cause { HasCause (D.outside host.old).dev_faults (D.outside host.new).dev_faults result }
+    ensures others { JustWrites (D.outside host.old) (D.outside host.new) result }
 {
     match last {
         None => zero_area(host, len, one),
@@ -96,7 +94,8 @@ fn zero_places<D: Dev>(host: &mut D, len: u64, one: u64, last: Option<u64>) -> R
 
 /// Zeroes the areas of the volume that the device has, whichever it is; where none is active, the first area's place.
 fn clear_old<D: Dev>(host: &mut D) -> Result<(), Failed>
-    ensures stages { (old : List ℕ) → PerformsAll old (zeroed old (old_places old)) (old_stages old) result (D.outside host.old) (D.outside host.new) }
+    ensures stages { (old : List ℕ)
+        → PerformsAll old (zeroed old (old_places old)) (old_stages old) result (D.outside host.old) (D.outside host.new) }
     ensures others { LeavesConsole (D.outside host.old) (D.outside host.new) }
     ensures cause { HasCause (D.outside host.old).dev_faults (D.outside host.new).dev_faults result }
 {
@@ -112,9 +111,9 @@ fn clear_old<D: Dev>(host: &mut D) -> Result<(), Failed>
 fn write_supers<D: Dev>(host: &mut D, volume: &NewVolume) -> Result<(), Failed>
     requires geometry { IsGeometry volume.now.geometry }
     requires len { IfSome (D.outside host.old).extent (λ n. volume.now.geometry.len4 ≤ n) }
-    ensures stage { (bytes : List ℕ) → volume.now.geometry.len4 ≤ length bytes → Performs (supers_stage volume.now.geometry volume.now.order volume.now.moment bytes) result (D.outside host.old) (D.outside host.new) }
-    ensures others { LeavesRest (D.outside host.old) (D.outside host.new) }
-    ensures cause { HasCause (D.outside host.old).dev_faults (D.outside host.new).dev_faults result }
+    ensures stage { (bytes : List ℕ) → volume.now.geometry.len4 ≤ length bytes
+        → Performs (supers_stage volume.now.geometry volume.now.order volume.now.moment bytes) result (D.outside host.old) (D.outside host.new) }
+    ensures others { JustWrites (D.outside host.old) (D.outside host.new) result }
 {
     let mut first = [0; 512];
     let mut second = [0; 512];
@@ -129,8 +128,7 @@ fn write_volume<D: Dev>(host: &mut D, volume: &NewVolume) -> Result<(), Failed>
     requires len { IfSome (D.outside host.old).extent (λ n. volume.now.geometry.len4 ≤ n) }
     ensures stages { (bytes : List ℕ) → volume.now.geometry.len4 ≤ length bytes
         → PerformsAll bytes (with_volume volume.now.geometry volume.now.order volume.now.moment bytes) (new_stages volume.now.geometry volume.now.order volume.now.moment bytes) result (D.outside host.old) (D.outside host.new) }
-    ensures others { LeavesRest (D.outside host.old) (D.outside host.new) }
-    ensures cause { HasCause (D.outside host.old).dev_faults (D.outside host.new).dev_faults result }
+    ensures others { JustWrites (D.outside host.old) (D.outside host.new) result }
 {
     put_into_areas(host, &volume.geometry, &ZEROS, &ZEROS)?;
     write_blocks(host, volume)?;
@@ -148,7 +146,8 @@ fn replace<D: Dev>(
     requires geometry { IsGeometry geometry.now }
     requires size { geometry.now.len4 ≤ size }
     ensures now { moment < 2 ^ 32 }
-    ensures stages { (old : List ℕ) → MakesAll size old (made_bytes geometry.now order moment size old) (make_stages geometry.now order moment size old) result (D.outside host.old) (D.outside host.new) }
+    ensures stages { (old : List ℕ)
+        → MakesAll size old (made_bytes geometry.now order moment size old) (make_stages geometry.now order moment size old) result (D.outside host.old) (D.outside host.new) }
     ensures others { LeavesConsole (D.outside host.old) (D.outside host.new) }
     ensures cause { HasCause (D.outside host.old).dev_faults (D.outside host.new).dev_faults result }
 {
@@ -169,22 +168,30 @@ fn replace<D: Dev>(
 /// It takes no memory.
 pub fn make<D: Dev>(host: &mut D, options: &MakeOptions) -> Result<Made, MakeFault>
     // Numbers that are those of no volume are refused before anything is asked of the device, and no others are.
-    ensures refused { (fault : GeomFault) → geometry_for options.now ≡ Err fault → (result ≡ Err (faults.Geom fault)) × (host.new ≡ host.old) }
-    ensures geom { (fault : GeomFault) → result ≡ Err (faults.Geom fault) → geometry_for options.now ≡ Err fault }
+    ensures refused { (fault : GeomFault) → geometry_for options.now ≡ Err fault
+        → (result ≡ Err (faults.Geom fault)) × (host.new ≡ host.old) }
+    ensures geom { (fault : GeomFault) → result ≡ Err (faults.Geom fault)
+        → geometry_for options.now ≡ Err fault }
 
     // What was made is what was asked for, byte for byte.
     ensures made { (g : Geometry) → geometry_for options.now ≡ Ok g → IfOk result (λ made. made ≡ made_of g) }
-    ensures volume { (g : Geometry) → geometry_for options.now ≡ Ok g → OnOk result (IsTrue (D.outside host.new).tells → HasMade options.now g (bytes_of (D.outside host.old).history) (D.outside host.new).history) }
+    ensures volume { (g : Geometry) → geometry_for options.now ≡ Ok g
+        → OnOk result (IsTrue (D.outside host.new).tells
+        → HasMade options.now g (bytes_of (D.outside host.old).history) (D.outside host.new).history) }
 
     // Wherever the power is cut.
     ensures any_moment { MakesAtEachMoment options.now (D.outside host.old) (D.outside host.new) }
 
-    ensures lengths { IsTrue (D.outside host.new).tells → AsksOneLength options.now.size (D.outside host.old).history (D.outside host.new).history }
-    ensures console { IsTrue (D.outside host.new).tells → KeepsQuiet (D.outside host.old).history (D.outside host.new).history }
+    ensures lengths { IsTrue (D.outside host.new).tells
+        → AsksOneLength options.now.size (D.outside host.old).history (D.outside host.new).history }
+    ensures console { IsTrue (D.outside host.new).tells
+        → KeepsQuiet (D.outside host.old).history (D.outside host.new).history }
     ensures others { LeavesConsole (D.outside host.old) (D.outside host.new) }
     ensures later { (D.outside host.old).dev_faults ≤ (D.outside host.new).dev_faults }
-    ensures device { result ≡ Err faults.Device → Rose (D.outside host.old).dev_faults (D.outside host.new).dev_faults }
-    ensures kept { (result ≡ Err faults.Device → ⊥) → (D.outside host.new).dev_faults ≡ (D.outside host.old).dev_faults }
+    ensures device { result ≡ Err faults.Device
+        → Rose (D.outside host.old).dev_faults (D.outside host.new).dev_faults }
+    ensures kept { (result ≡ Err faults.Device → ⊥)
+        → (D.outside host.new).dev_faults ≡ (D.outside host.old).dev_faults }
 {
     let geometry = match Geometry::new(options.size, options.blocksize, options.inodes) {
         Err(fault) => return Err(MakeFault::Geom(fault)),
