@@ -1,7 +1,8 @@
 //! Callers that know the trait alone, and blocks in memory under them.
 ghost use Rattle.std.specs.Prelude.{◌≡◌, ◌-◌, ◌<◌, ◌≤◌, ℕ, length, IsTrue, IfOk, OnOk, OnErr, slice_index, slice_set};
 ghost use Rattle.qx_blocks.specs.BlockState.{with_bytes, with_ready};
-ghost use Rattle.qx_blocks.specs.Calls.{HasStopCause, Keeps};
+ghost use Rattle.qx_blocks.specs.Beside.{LeavesBeside};
+ghost use Rattle.qx_blocks.specs.Calls.{Keeps, OnlyReads};
 ghost use Rattle.qx_blocks.specs.Growth.{Grows};
 
 use qx_blocks::{Blocks, MemBlocks, Stop, fresh_copy};
@@ -10,11 +11,11 @@ use std::test::Fail;
 // The last byte of a block.
 fn last_byte<B: Blocks>(blocks: &mut B, b: u32) -> Result<u8, Stop>
     requires { IsTrue ((B.state blocks.old).holdings.held b) }
-    ensures told { IfOk result (λ byte. IsTrue (B.state blocks.new).tells → byte ≡ slice_index ((B.state blocks.old).bytes b) ((B.state blocks.old).holdings.size - 1)) }
-    ensures ready { IfOk result (λ byte. IsTrue ((B.state blocks.old).holdings.ready b) → byte ≡ slice_index ((B.state blocks.old).bytes b) ((B.state blocks.old).holdings.size - 1)) }
-    ensures keeps { Keeps (B.state blocks.old) (B.state blocks.new) }
-    ensures aside { B.Blocks.aside blocks.new ≡ B.Blocks.aside blocks.old }
-    ensures cause { HasStopCause (B.faults blocks.old) (B.faults blocks.new) result }
+    ensures told { IfOk result (λ byte. IsTrue (B.state blocks.new).tells
+        → byte ≡ slice_index ((B.state blocks.old).bytes b) ((B.state blocks.old).holdings.size - 1)) }
+    ensures ready { IfOk result (λ byte. IsTrue ((B.state blocks.old).holdings.ready b)
+        → byte ≡ slice_index ((B.state blocks.old).bytes b) ((B.state blocks.old).holdings.size - 1)) }
+    ensures reads { OnlyReads B.state B.beside blocks.old blocks.new result }
 {
     let size = blocks.size();
     let lent = blocks.read(b)?;
@@ -24,12 +25,12 @@ fn last_byte<B: Blocks>(blocks: &mut B, b: u32) -> Result<u8, Stop>
 // Sets the last byte of a private block.
 fn set_last<B: Blocks>(blocks: &mut B, b: u32, value: u8) -> Result<(), Stop>
     requires { IsTrue ((B.state blocks.old).holdings.private b) }
-    ensures holdings { OnOk result ((B.state blocks.new).holdings ≡ (with_ready (B.state blocks.old) b).holdings) }
+    ensures holdings { OnOk result
+        ((B.state blocks.new).holdings ≡ (with_ready (B.state blocks.old) b).holdings) }
     ensures told { OnOk result (IsTrue (B.state blocks.new).tells
         → B.state blocks.new ≡ with_bytes (with_ready (B.state blocks.old) b) b (slice_set ((B.state blocks.old).bytes b) ((B.state blocks.old).holdings.size - 1) value)) }
     ensures err { OnErr result (Keeps (B.state blocks.old) (B.state blocks.new)) }
-    ensures aside { B.Blocks.aside blocks.new ≡ B.Blocks.aside blocks.old }
-    ensures cause { HasStopCause (B.faults blocks.old) (B.faults blocks.new) result }
+    ensures others { LeavesBeside (B.beside blocks.old) (B.beside blocks.new) result }
 {
     let size = blocks.size();
     blocks.ready(b)?;
@@ -40,14 +41,15 @@ fn set_last<B: Blocks>(blocks: &mut B, b: u32, value: u8) -> Result<(), Stop>
 // Copies each block into a fresh one.
 fn copy_each<B: Blocks>(blocks: &mut B, from: &[u32], into: &mut [u32]) -> Result<(), Stop>
     requires long { length from.now ≡ length into.old }
-    requires held { (k : ℕ) → k < length from.now → IsTrue ((B.state blocks.old).holdings.held (slice_index from.now k)) }
+    requires held { (k : ℕ) → k < length from.now
+        → IsTrue ((B.state blocks.old).holdings.held (slice_index from.now k)) }
     requires room { length from.now ≤ (B.state blocks.old).holdings.free }
     ensures grows { OnOk result (Grows (length from.now) (B.state blocks.old) (B.state blocks.new)) }
-    ensures taken { OnOk result ((k : ℕ) → k < length from.now → IsTrue ((B.state blocks.new).holdings.held (slice_index into.new k))) }
+    ensures taken { OnOk result ((k : ℕ) → k < length from.now
+        → IsTrue ((B.state blocks.new).holdings.held (slice_index into.new k))) }
     ensures copies { OnOk result (IsTrue (B.state blocks.new).tells → (k : ℕ) → k < length from.now
         → (B.state blocks.new).bytes (slice_index into.new k) ≡ (B.state blocks.old).bytes (slice_index from.now k)) }
-    ensures aside { B.Blocks.aside blocks.new ≡ B.Blocks.aside blocks.old }
-    ensures cause { HasStopCause (B.faults blocks.old) (B.faults blocks.new) result }
+    ensures others { LeavesBeside (B.beside blocks.old) (B.beside blocks.new) result }
 {
     for (i, b) in from.iter().enumerate() {
         into[i] = fresh_copy(blocks, *b)?;

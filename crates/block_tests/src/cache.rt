@@ -51,7 +51,7 @@ fn cache_over<H: Dev + Drop>(alloc: Global, host: H) -> Result<Cache<H>, Fail>
 
 // Takes a block and fills it with this byte, where one is free.
 fn filled<B: Blocks>(blocks: &mut B, byte: u8) -> Result<Option<u32>, Stop>
-    ensures { B.Blocks.aside blocks.new ≡ B.Blocks.aside blocks.old }
+    ensures { B.beside blocks.new ≡ B.beside blocks.old }
 {
     if blocks.free() == 0 {
         return Ok(None);

@@ -1,4 +1,5 @@
 pub mod BlockState
+pub mod Beside
 pub mod Calls
 pub mod Growth
 pub mod MemState

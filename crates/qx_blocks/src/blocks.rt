@@ -3,7 +3,8 @@ ghost use Rattle.std.specs.Prelude.{◌≡◌, ◌<◌, ℕ, Bool, List, false, 
 ghost use Rattle.std.specs.Borrow.{sem, Lends, Array, u8 as byte};
 ghost use Rattle.std.specs.Io.BufRead.{Rests};
 ghost use Rattle.qx_blocks.specs.BlockState.{BlockState, IsConsistent, with_bytes, with_fresh, without};
-ghost use Rattle.qx_blocks.specs.Calls.{HasStopCause, Keeps, MakesReady};
+ghost use Rattle.qx_blocks.specs.Beside.{Beside, LeavesBeside};
+ghost use Rattle.qx_blocks.specs.Calls.{Keeps, MakesReady, OnlyReads};
 
 use std::alloc::AllocError;
 
@@ -34,11 +35,8 @@ pub trait Blocks {
     /// What else an implementer keeps that none of these calls changes.
     ghost Aside: { Type 0 } = { Unit {0} };
 
-    /// What it keeps, such as which blocks other trees hold.
-    ghost aside: { Self → Self.Aside };
-
-    /// How often the device failed. It never falls.
-    ghost faults: { Self → ℕ };
+    /// What it keeps beside, such as which blocks other trees hold, and how often the device failed.
+    ghost beside: { Self → Beside Self.Aside };
 
     /// The blocks once block b was lent for writing and got these bytes.
     ghost edited: { Self → ℕ → List ℕ → Self };
@@ -55,11 +53,10 @@ pub trait Blocks {
     fn read(&mut self, b: u32) -> Result<&[u8], Stop>
         requires { IsTrue ((state self.old).holdings.held b) }
         ensures long { IfOk result (λ lent. length lent.now ≡ (state self.old).holdings.size) }
-        ensures ready { IfOk result (λ lent. IsTrue ((state self.old).holdings.ready b) → lent.now ≡ (state self.old).bytes b) }
+        ensures ready { IfOk result (λ lent. IsTrue ((state self.old).holdings.ready b)
+            → lent.now ≡ (state self.old).bytes b) }
         ensures* leaves { sem 𝓛 (Rests Self.row self.entry (λ new.
-            Keeps (state self.old) (state new)
-            × (aside new ≡ aside self.old)
-            × HasStopCause (faults self.old) (faults new) result
+            OnlyReads state beside self.old new result
             × IfOk result (λ lent. IsTrue (state new).tells → lent.now ≡ (state self.old).bytes b)
             × read_leaves self.old b (is_ok result) new)) };
 
@@ -70,16 +67,14 @@ pub trait Blocks {
         ensures unheld { IfOk result (λ b. (state self.old).holdings.held b ≡ false) }
         ensures refused { IfErr result (λ stop. stop ≡ Stop.NoMemory) }
         ensures err { OnErr result (state self.new ≡ state self.old) }
-        ensures aside { aside self.new ≡ aside self.old }
-        ensures faults { faults self.new ≡ faults self.old };
+        ensures others { beside self.new ≡ beside self.old };
 
     /// Makes a block ready to be written that the working tree alone holds.
     fn ready(&mut self, b: u32) -> Result<(), Stop>
         requires { IsTrue ((state self.old).holdings.private b) }
         ensures ok { OnOk result (MakesReady b (state self.old) (state self.new)) }
         ensures err { OnErr result (Keeps (state self.old) (state self.new)) }
-        ensures aside { aside self.new ≡ aside self.old }
-        ensures cause { HasStopCause (faults self.old) (faults self.new) result };
+        ensures others { LeavesBeside (beside self.old) (beside self.new) result };
 
     /// Lends a ready block for writing. All other blocks stay.
     fn edit(&mut self, b: u32) -> &mut [u8]
@@ -92,8 +87,7 @@ pub trait Blocks {
     fn release(&mut self, b: u32)
         requires { IsTrue ((state self.old).holdings.works b) }
         ensures released { state self.new ≡ without (state self.old) b }
-        ensures aside { aside self.new ≡ aside self.old }
-        ensures faults { faults self.new ≡ faults self.old };
+        ensures others { beside self.new ≡ beside self.old };
 
     /// Whether the working tree alone holds the block.
     fn is_private(&self, b: u32) -> bool
@@ -114,9 +108,6 @@ pub trait Blocks {
     ghost edits: { (x : Self) (b : ℕ) (new : List ℕ) → IsTrue ((state x).holdings.ready b)
         → length new ≡ length ((state x).bytes b) → state (edited x b new) ≡ with_bytes (state x) b new };
 
-    /// A write through `edit` makes no outside call.
-    ghost edits_faults: { (x : Self) (b : ℕ) (new : List ℕ) → faults (edited x b new) ≡ faults x };
-
-    /// It changes nothing of what the implementer keeps beside.
-    ghost edits_aside: { (x : Self) (b : ℕ) (new : List ℕ) → aside (edited x b new) ≡ aside x };
+    /// A write through `edit` makes no outside call, and changes nothing of what stands beside the blocks.
+    ghost edits_beside: { (x : Self) (b : ℕ) (new : List ℕ) → beside (edited x b new) ≡ beside x };
 }

@@ -83,9 +83,7 @@ impl MemBlocks {
 impl Blocks for MemBlocks {
     ghost state = { state_of };
 
-    ghost aside = { λ _. tt };
-
-    ghost faults = { λ _. 0 };
+    ghost beside = { λ _. record { aside = tt; faults = 0 } };
 
     ghost edited = { edited_in };
 
@@ -93,9 +91,7 @@ impl Blocks for MemBlocks {
 
     ghost edits = { state-edited };
 
-    ghost edits_faults = { λ _ _ _. refl };
-
-    ghost edits_aside = { λ _ _ _. refl };
+    ghost edits_beside = { λ _ _ _. refl };
 
     fn size(&self) -> usize {
         self.size

@@ -15,17 +15,13 @@ impl Blocks for Untold {
 
     ghost state = { λ q. record (state_of q.blocks) { tells = false } };
 
-    ghost aside = { λ _. tt };
-
-    ghost faults = { λ _. 0 };
+    ghost beside = { λ _. record { aside = tt; faults = 0 } };
 
     ghost edited = { λ q b bytes. record q { blocks = edited_in q.blocks b bytes } };
 
     ghost edits = { λ q b bytes ready same i. record (state-edited q.blocks b bytes ready same i) { tells = false } };
 
-    ghost edits_faults = { λ _ _ _. refl };
-
-    ghost edits_aside = { λ _ _ _. refl };
+    ghost edits_beside = { λ _ _ _. refl };
 
     fn size(&self) -> usize {
         self.blocks.size()

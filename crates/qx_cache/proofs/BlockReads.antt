@@ -5,7 +5,7 @@ use Rattle.std.specs.Option.{option_map, option_or}
 use Rattle.std.specs.FinMap.{get}
 use Rattle.qx_outside.specs.Outside.{Outside}
 use Rattle.qx_outside.specs.Causes.{StaysWhereTold}
-use Rattle.qx_cache.specs.CacheState.{CacheState, aside_of, change_of, is_kept, kept_with}
+use Rattle.qx_cache.specs.CacheState.{CacheState, change_of, is_kept, kept_with}
 use Rattle.qx_cache.specs.Calls.{Reads}
 use Rattle.qx_cache.proofs.BlockMeanings.{chosen}
 use Rattle.qx_cache.proofs.CoherentSteps.{kept-one}
@@ -72,11 +72,6 @@ module _ {H : Type 0} (outside : H → Outside) where
     read true u is = refl
     read false true is = refl
     read false false is = absurd (cc is)
-
--- what no call changes stays, where the console does
-pub same-aside : {H : Type 0} (outside : H → Outside) (c : CacheState H) (host : H) (kept : List ℕ) → (outside host).attached ≡ (outside c.host).attached → (outside host).con_faults ≡ (outside c.host).con_faults
-    → aside_of outside (record c { host = host; kept = kept }) ≡ aside_of outside c
-same-aside outside c host kept paths console = λ i. record (aside_of outside c) { attached = paths i; con_faults = console i }
 
 -- a block that isn't changed is in neither map
 pub unchanged : {H : Type 0} (c : CacheState H) (b : ℕ) → is_some (change_of c b) ≡ false → (get c.changes b ≡ None) × (get c.frozen_changes b ≡ None)

@@ -12,6 +12,7 @@ use Rattle.qx_alloc.specs.SpaceState.{SpaceState, free_in, is_held, is_private_i
 use Rattle.qx_alloc.specs.SpaceState as space
 use Rattle.qx_blockset.specs.Members.{Members, has}
 use Rattle.qx_blocks.specs.BlockState.{BlockState}
+use Rattle.qx_blocks.specs.Beside.{Beside}
 
 -- the device, the block size, which tree holds which block, the changed blocks that the working tree alone holds and those of the frozen tree, each with its bytes, and the clean blocks that are kept, the last read first
 pub record CacheState (H : Type 0) : Type 0 where
@@ -94,6 +95,21 @@ aside_of outside c = record {
   frozen_changes = c.frozen_changes;
   attached = (outside c.host).attached;
   con_faults = (outside c.host).con_faults;
+}
+
+-- what stands beside its blocks: this, and how often its device failed
+abbrev pub beside_of : {H : Type 0} → (H → Outside) → CacheState H → Beside CacheAside
+beside_of outside c = record { aside = aside_of outside c; faults = (outside c.host).dev_faults }
+
+-- a new cache has no changes, and keeps no block
+abbrev pub new_cache : {H : Type 0} → H → ℕ → SpaceState → CacheState H
+new_cache host size space = record {
+  host = host;
+  size = size;
+  space = space;
+  changes = empty;
+  frozen_changes = empty;
+  kept = [];
 }
 
 -- ---- kept blocks

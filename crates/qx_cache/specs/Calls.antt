@@ -1,14 +1,15 @@
 -- What one call on a cache does.
-use Rattle.std.specs.Prelude.{◌≡◌, ℕ, ◌+◌, ◌≤◌, ◌<◌, Bool, true, false, List, ◌⊎◌, length, IsTrue, is_some, Option, Some, None, if◌then◌else◌}
+use Rattle.std.specs.Prelude.{◌≡◌, ℕ, ◌+◌, ◌≤◌, ◌<◌, Bool, true, false, List, ◌⊎◌, length, IsTrue, is_some, Option, Some, None, Result, if◌then◌else◌}
 use Rattle.std.specs.Option.{option_map}
 use Rattle.std.specs.FinMap.{get}
 use Rattle.qx_outside.specs.Outside.{Outside}
-use Rattle.qx_outside.specs.Causes.{StaysWhereTold}
+use Rattle.qx_outside.specs.Causes.{HasCause, StaysWhereTold}
 use Rattle.qx_outside.specs.Trail.{wrote, bytes_of}
 use Rattle.qx_outside.specs.Calls.{Did, FailsToWrite, Idles}
 use Rattle.qx_patch.specs.PatchState.{IsLeast}
 use Rattle.qx_alloc.specs.SpaceState.{limit_in}
 use Rattle.qx_blockset.specs.Members.{has, Has}
+use Rattle.qx_cache.specs.Coherence.{IsCoherent}
 use Rattle.qx_cache.specs.CacheState.{CacheState, block_place, bytes_over, change_of, is_kept, kept_with, state_of, with_host, with_written}
 
 -- the range lies outside the user blocks
@@ -64,3 +65,17 @@ module _ {H : Type 0} (outside : H → Outside) where
   pub record HasSameBlocks (old new : CacheState H) : Type 0 where
     pub holdings : (state_of outside new).holdings ≡ (state_of outside old).holdings
     pub bytes : IsTrue (outside new.host).tells → (b : ℕ) → bytes_over (bytes_of (outside new.host).history) new b ≡ bytes_over (bytes_of (outside old.host).history) old b
+
+  -- something was asked of the host that left the blocks alone, and of the cache nothing else changed
+  pub record OnlyAsks (old new : CacheState H) : Type 0 where
+    pub rest : new ≡ with_host old new.host
+    pub blocks : HasSameBlocks old new
+    pub coherent : IsCoherent outside new
+
+  -- a failure of the device has its cause in the count of its faults
+  abbrev pub HasDeviceCause : {T E : Type 0} → CacheState H → CacheState H → Result T E → Type 0
+  HasDeviceCause old new = HasCause (outside old.host).dev_faults (outside new.host).dev_faults
+
+  -- so has one of the console or the clock
+  abbrev pub HasConsoleCause : {T E : Type 0} → CacheState H → CacheState H → Result T E → Type 0
+  HasConsoleCause old new = HasCause (outside old.host).con_faults (outside new.host).con_faults

@@ -1,10 +1,11 @@
 //! The cache as the blocks of the working tree.
 ghost use Rattle.std.specs.Prelude.{◌≡◌, ◌<◌, ◌≤◌, false, refl, replicate, IsTrue, IfErr, IfOk, OnErr, OnOk};
 ghost use Rattle.qx_blocks.specs.BlockState.{with_fresh, without};
-ghost use Rattle.qx_blocks.specs.Calls.{HasStopCause, Keeps, MakesReady};
+ghost use Rattle.qx_blocks.specs.Beside.{LeavesBeside};
+ghost use Rattle.qx_blocks.specs.Calls.{Keeps, MakesReady};
 ghost use Rattle.qx_blockset.specs.Members.{has};
 ghost use Rattle.qx_alloc.specs.SpaceState.{free_in, is_held, is_private_in, IsFree};
-ghost use Rattle.qx_cache.specs.CacheState.{aside_of, edited_in, kept_but, state_of, with_released, with_taken, CacheAside};
+ghost use Rattle.qx_cache.specs.CacheState.{beside_of, edited_in, kept_but, state_of, with_released, with_taken, CacheAside};
 ghost use Rattle.qx_cache.specs.Calls.{Reads};
 
 use crate::Cache;
@@ -28,9 +29,7 @@ impl<H: Dev> Blocks for Cache<H> {
 
     ghost Aside = { CacheAside };
 
-    ghost aside = { aside_of H.outside };
-
-    ghost faults = { λ c. (H.outside c.host).dev_faults };
+    ghost beside = { beside_of H.outside };
 
     ghost edited = { edited_in };
 
@@ -40,9 +39,7 @@ impl<H: Dev> Blocks for Cache<H> {
 
     ghost edits = { state-edited H.outside };
 
-    ghost edits_faults = { λ _ _ _. refl };
-
-    ghost edits_aside = { λ _ _ _. refl };
+    ghost edits_beside = { λ _ _ _. refl };
 
     fn size(&self) -> usize {
         self.size
@@ -55,12 +52,12 @@ impl<H: Dev> Blocks for Cache<H> {
 
     fn fresh(&mut self) -> Result<u32, Stop>
         requires { 0 < free_in self.old.space }
-        ensures taken { IfOk result (λ b. state_of H.outside self.new ≡ with_fresh (state_of H.outside self.old) b) }
+        ensures taken { IfOk result (λ b.
+            state_of H.outside self.new ≡ with_fresh (state_of H.outside self.old) b) }
         ensures unheld { IfOk result (λ b. is_held self.old.space b ≡ false) }
         ensures refused { IfErr result (λ stop. stop ≡ Stop.NoMemory) }
         ensures err { OnErr result (state_of H.outside self.new ≡ state_of H.outside self.old) }
-        ensures aside { aside_of H.outside self.new ≡ aside_of H.outside self.old }
-        ensures faults { (H.outside self.new.host).dev_faults ≡ (H.outside self.old.host).dev_faults }
+        ensures others { beside_of H.outside self.new ≡ beside_of H.outside self.old }
 
         // Beside the blocks: which block it is, what is kept, and that the device is asked nothing.
         ensures free { IfOk result (λ b. IsFree self.old.space b) }
@@ -79,8 +76,7 @@ impl<H: Dev> Blocks for Cache<H> {
         requires { IsTrue (is_private_in self.old.space b) }
         ensures ok { OnOk result (MakesReady b (state_of H.outside self.old) (state_of H.outside self.new)) }
         ensures err { OnErr result (Keeps (state_of H.outside self.old) (state_of H.outside self.new)) }
-        ensures aside { aside_of H.outside self.new ≡ aside_of H.outside self.old }
-        ensures cause { HasStopCause (H.outside self.old.host).dev_faults (H.outside self.new.host).dev_faults result }
+        ensures others { LeavesBeside (beside_of H.outside self.old) (beside_of H.outside self.new) result }
 
         ensures kept { OnOk result (self.new.kept ≡ kept_but self.old.kept b) }
         ensures cache { self.new ≡ self.old }
@@ -96,8 +92,7 @@ impl<H: Dev> Blocks for Cache<H> {
     fn release(&mut self, b: u32)
         requires { IsTrue (has self.old.space.working b) }
         ensures released { state_of H.outside self.new ≡ without (state_of H.outside self.old) b }
-        ensures aside { aside_of H.outside self.new ≡ aside_of H.outside self.old }
-        ensures faults { (H.outside self.new.host).dev_faults ≡ (H.outside self.old.host).dev_faults }
+        ensures others { beside_of H.outside self.new ≡ beside_of H.outside self.old }
 
         ensures cache { self.new ≡ with_released self.old b }
     {

@@ -1,16 +1,15 @@
 //! Blocks of a device, whose changes are kept in memory.
-ghost use Rattle.std.specs.Prelude.{◌≡◌, ◌+◌, ◌<◌, ◌≤◌, ◌^◌, ◌↔◌, ℕ, List, [], true, false, length, is_ok, is_some, IsTrue, IfOk, IfErr, IfSome, IfNone, OnOk, OnErr};
+ghost use Rattle.std.specs.Prelude.{◌≡◌, ◌+◌, ◌<◌, ◌≤◌, ◌^◌, ◌↔◌, ℕ, List, true, false, length, is_ok, is_some, IsTrue, IfOk, IfErr, IfSome, IfNone, OnOk, OnErr};
 ghost use Rattle.std.specs.FinMap.{empty, len};
-ghost use Rattle.qx_outside.specs.Causes.{HasCause};
 ghost use Rattle.qx_outside.specs.Trail.{Deed.{wrote, synced}, bytes_of};
-ghost use Rattle.qx_outside.specs.Calls.{Did, FailsToWrite, LeavesConsole, LeavesRest, MayDo, Syncs, Writes};
+ghost use Rattle.qx_outside.specs.Calls.{Did, FailsToWrite, LeavesRest, MayDo, Syncs, Writes};
 ghost use Rattle.qx_blocks.specs.BlockState.{IsBlockSize};
-ghost use Rattle.qx_blocks.specs.Calls.{HasStopCause};
+ghost use Rattle.qx_blocks.specs.Beside.{LeavesBeside};
 ghost use Rattle.qx_blockset.specs.Members.{has};
 ghost use Rattle.qx_alloc.specs.SpaceState.{free_in, is_held, is_private_in, limit_in};
-ghost use Rattle.qx_cache.specs.CacheState.{block_place, bytes_over, change_of, is_kept, kept_but, with_frozen, with_host, with_thawed};
+ghost use Rattle.qx_cache.specs.CacheState.{beside_of, block_place, bytes_over, change_of, is_kept, kept_but, new_cache, with_frozen, with_thawed};
 ghost use Rattle.qx_cache.specs.CacheView.{kept_in};
-ghost use Rattle.qx_cache.specs.Calls.{FailsToWriteNext, HasSameBlocks, IsOutsideUsers, Reads, WritesNext};
+ghost use Rattle.qx_cache.specs.Calls.{FailsToWriteNext, HasDeviceCause, HasSameBlocks, IsOutsideUsers, OnlyAsks, Reads, WritesNext};
 ghost use Rattle.qx_cache.specs.Coherence.{HasRoom, IsCoherent};
 
 use qx_alloc::Space;
@@ -68,7 +67,7 @@ impl<H: Dev> Cache<H> {
         requires unfrozen { space.is_frozen ≡ false }
         requires room { 0 < room }
         requires fits { HasRoom (H.outside host).extent blocksize (limit_in space) }
-        ensures ok { IfOk result (λ cache. cache ≡ record { host = host; size = blocksize; space = space; changes = empty; frozen_changes = empty; kept = [] }) }
+        ensures ok { IfOk result (λ cache. cache ≡ new_cache host blocksize space) }
         ensures coherent { IfOk result (λ cache. IsCoherent H.outside cache) }
         ensures err { IfErr result (λ back. back ≡ host) }
     {
@@ -101,7 +100,7 @@ impl<H: Dev> Cache<H> {
         ensures wrote { IfOk result (λ written. written ≡ true → WritesNext H.outside self.old self.new) }
 
         ensures failed { OnErr result (FailsToWriteNext H.outside self.old self.new) }
-        ensures cause { HasCause (H.outside self.old.host).dev_faults (H.outside self.new.host).dev_faults result }
+        ensures cause { HasDeviceCause H.outside self.old self.new result }
 
         ensures blocks { HasSameBlocks H.outside self.old self.new }
         ensures others { LeavesRest (H.outside self.old.host) (H.outside self.new.host) }
@@ -123,15 +122,15 @@ impl<H: Dev> Cache<H> {
         requires outside { IsOutsideUsers self.old at (length bytes.now) }
         requires within { IfSome (H.outside self.old.host).extent (λ len. at + length bytes.now ≤ len) }
 
-        ensures ok { OnOk result (Did (wrote at bytes.now bytes.now true) (H.outside self.old.host) (H.outside self.new.host)) }
-        ensures err { OnErr result (FailsToWrite at bytes.now (H.outside self.old.host) (H.outside self.new.host)) }
+        ensures ok { OnOk result
+            (Did (wrote at bytes.now bytes.now true) (H.outside self.old.host) (H.outside self.new.host)) }
+        ensures err { OnErr result
+            (FailsToWrite at bytes.now (H.outside self.old.host) (H.outside self.new.host)) }
         ensures step { Writes at bytes.now (H.outside self.old.host) (H.outside self.new.host) }
-        ensures cause { HasCause (H.outside self.old.host).dev_faults (H.outside self.new.host).dev_faults result }
+        ensures cause { HasDeviceCause H.outside self.old self.new result }
 
-        ensures rest { self.new ≡ with_host self.old self.new.host }
-        ensures blocks { HasSameBlocks H.outside self.old self.new }
+        ensures rest { OnlyAsks H.outside self.old self.new }
         ensures others { LeavesRest (H.outside self.old.host) (H.outside self.new.host) }
-        ensures coherent { IsCoherent H.outside self.new }
     {
         self.host.write_at(at, bytes)
     }
@@ -139,14 +138,13 @@ impl<H: Dev> Cache<H> {
     /// After an Ok a loss of power leaves what reads of the device give, until later writes. Changed blocks are not written.
     pub fn sync(&mut self) -> Result<(), Failed>
         ensures ok { OnOk result (Did (synced true) (H.outside self.old.host) (H.outside self.new.host)) }
-        ensures err { OnErr result (MayDo (synced false) (H.outside self.old.host) (H.outside self.new.host)) }
+        ensures err { OnErr result
+            (MayDo (synced false) (H.outside self.old.host) (H.outside self.new.host)) }
         ensures step { Syncs (H.outside self.old.host) (H.outside self.new.host) }
-        ensures cause { HasCause (H.outside self.old.host).dev_faults (H.outside self.new.host).dev_faults result }
+        ensures cause { HasDeviceCause H.outside self.old self.new result }
 
-        ensures rest { self.new ≡ with_host self.old self.new.host }
-        ensures blocks { HasSameBlocks H.outside self.old self.new }
+        ensures rest { OnlyAsks H.outside self.old self.new }
         ensures others { LeavesRest (H.outside self.old.host) (H.outside self.new.host) }
-        ensures coherent { IsCoherent H.outside self.new }
     {
         self.host.sync()
     }
@@ -156,7 +154,8 @@ impl<H: Dev> Cache<H> {
         requires { self.old.space.is_frozen ≡ false }
         ensures frozen { self.new ≡ with_frozen self.old }
         ensures changes { (b : ℕ) → change_of self.new b ≡ change_of self.old b }
-        ensures bytes { (device : List ℕ) (b : ℕ) → bytes_over device self.new b ≡ bytes_over device self.old b }
+        ensures bytes { (device : List ℕ) (b : ℕ)
+            → bytes_over device self.new b ≡ bytes_over device self.old b }
         ensures free { free_in self.new.space ≡ free_in self.old.space }
         ensures coherent { IsCoherent H.outside self.new }
     {
@@ -170,7 +169,8 @@ impl<H: Dev> Cache<H> {
         requires written { self.old.frozen_changes ≡ empty }
         ensures thawed { self.new ≡ with_thawed self.old }
         ensures private { (b : ℕ) → is_private_in self.new.space b ≡ is_private_in self.old.space b }
-        ensures bytes { (device : List ℕ) (b : ℕ) → IsTrue (has self.old.space.working b) → bytes_over device self.new b ≡ bytes_over device self.old b }
+        ensures bytes { (device : List ℕ) (b : ℕ) → IsTrue (has self.old.space.working b)
+            → bytes_over device self.new b ≡ bytes_over device self.old b }
         ensures coherent { IsCoherent H.outside self.new }
     {
         self.space.thaw_into_durable();
@@ -220,8 +220,7 @@ impl<H: Dev> Cache<H> {
     pub(crate) fn bring(&mut self, b: u32) -> Result<(), Stop>
         requires { IsTrue (is_held self.old.space b) }
         ensures reads { Reads H.outside self.old b (is_ok result) self.new }
-        ensures others { LeavesConsole (H.outside self.old.host) (H.outside self.new.host) }
-        ensures cause { HasStopCause (H.outside self.old.host).dev_faults (H.outside self.new.host).dev_faults result }
+        ensures others { LeavesBeside (beside_of H.outside self.old) (beside_of H.outside self.new) result }
     {
         if self.is_changed(b) || self.is_kept(b) {
             return Ok(());
@@ -241,7 +240,8 @@ impl<H: Dev> Cache<H> {
         requires there { IfNone (change_of self.now b) (IsTrue (is_kept self.now.kept b)) }
         ensures long { length result.now ≡ self.now.size }
         ensures changed { IfSome (change_of self.now b) (λ bytes. result.now ≡ bytes) }
-        ensures told { IsTrue (H.outside self.now.host).tells → result.now ≡ bytes_over (bytes_of (H.outside self.now.host).history) self.now b }
+        ensures told { IsTrue (H.outside self.now.host).tells
+            → result.now ≡ bytes_over (bytes_of (H.outside self.now.host).history) self.now b }
     {
         if let Some(bytes) = self.changes.get(b) {
             return bytes;

@@ -3,7 +3,7 @@ ghost use Rattle.std.specs.Prelude.{◌≡◌, ◌<◌, ◌≤◌, ◌+◌, ◌-
 ghost use Rattle.qx_geom.specs.Pointer.{ceil_div};
 ghost use Rattle.qx_nodes.specs.Content.{byte_of, leaf_bytes};
 ghost use Rattle.qx_blocks.specs.BlockState.{IsBlockSize, IsConsistent};
-ghost use Rattle.qx_blocks.specs.Calls.{HasStopCause, Keeps};
+ghost use Rattle.qx_blocks.specs.Calls.{OnlyReads};
 ghost use Rattle.qx_ptree.specs.Trees.{HasLevels, IsWorking, block_map};
 ghost use Rattle.qx_file.specs.Puts.{CanPut, HasByte, Puts, leaves_end, with_leaf};
 
@@ -18,8 +18,7 @@ pub fn put<B: Blocks>(node: &Root, blocks: &mut B, order: Order, at: u64, bytes:
     ensures puts { Puts order node.now at bytes.now (B.state blocks.old) (B.state blocks.new) }
     ensures again { CanPut order (B.state blocks.new) node.now at (length bytes.now) }
 
-    ensures aside { B.Blocks.aside blocks.new ≡ B.Blocks.aside blocks.old }
-    ensures faults { B.faults blocks.new ≡ B.faults blocks.old }
+    ensures others { B.beside blocks.new ≡ B.beside blocks.old }
 {
     if bytes.is_empty() {
         return;
@@ -37,8 +36,7 @@ pub fn put_fill<B: Blocks>(node: &Root, blocks: &mut B, order: Order, at: u64, c
     ensures puts { Puts order node.now at (replicate count byte) (B.state blocks.old) (B.state blocks.new) }
     ensures again { CanPut order (B.state blocks.new) node.now at count }
 
-    ensures aside { B.Blocks.aside blocks.new ≡ B.Blocks.aside blocks.old }
-    ensures faults { B.faults blocks.new ≡ B.faults blocks.old }
+    ensures others { B.beside blocks.new ≡ B.beside blocks.old }
 {
     if count == 0 {
         return;
@@ -66,9 +64,7 @@ pub fn read<B: Blocks>(
     ensures rest { IfOk result (λ n. drop n into.new ≡ drop n into.old) }
     ensures long { length into.new ≡ length into.old }
 
-    ensures keeps { Keeps (B.state blocks.old) (B.state blocks.new) }
-    ensures aside { B.Blocks.aside blocks.new ≡ B.Blocks.aside blocks.old }
-    ensures cause { HasStopCause (B.faults blocks.old) (B.faults blocks.new) result }
+    ensures reads { OnlyReads B.state B.beside blocks.old blocks.new result }
 {
     let count = node.size.saturating_sub(at).min(into.len() as u64);
     if count == 0 {
@@ -131,8 +127,7 @@ fn put_leaf<B: Blocks>(node: &Root, blocks: &mut B, order: Order, index: u64, at
     requires end { at + length bytes.now ≤ 2 ^ 64 }
     ensures put { B.state blocks.new ≡ with_leaf order (B.state blocks.old) node.now index at bytes.now }
 
-    ensures aside { B.Blocks.aside blocks.new ≡ B.Blocks.aside blocks.old }
-    ensures faults { B.faults blocks.new ≡ B.faults blocks.old }
+    ensures others { B.beside blocks.new ≡ B.beside blocks.old }
 {
     let piece = piece_in(blocks.size(), at, bytes.len() as u64, index);
     let part = &bytes[piece.from..piece.from + piece.count];
@@ -153,10 +148,10 @@ fn fill_leaf<B: Blocks>(
     requires can { CanPut order (B.state blocks.old) node.now at count }
     requires has { HasByte (B.state blocks.old).holdings.size at count index }
     requires end { at + count ≤ 2 ^ 64 }
-    ensures put { B.state blocks.new ≡ with_leaf order (B.state blocks.old) node.now index at (replicate count byte) }
+    ensures put { B.state blocks.new
+        ≡ with_leaf order (B.state blocks.old) node.now index at (replicate count byte) }
 
-    ensures aside { B.Blocks.aside blocks.new ≡ B.Blocks.aside blocks.old }
-    ensures faults { B.faults blocks.new ≡ B.faults blocks.old }
+    ensures others { B.beside blocks.new ≡ B.beside blocks.old }
 {
     let piece = piece_in(blocks.size(), at, count, index);
     let b = ready_leaf(node, blocks, order, index);
@@ -181,9 +176,7 @@ fn read_leaf<B: Blocks>(
         → into.new ≡ slice_range (leaf_bytes (block_map order (B.state blocks.old)) node.now index) place (place + length into.old)) }
     ensures long { length into.new ≡ length into.old }
 
-    ensures keeps { Keeps (B.state blocks.old) (B.state blocks.new) }
-    ensures aside { B.Blocks.aside blocks.new ≡ B.Blocks.aside blocks.old }
-    ensures cause { HasStopCause (B.faults blocks.old) (B.faults blocks.new) result }
+    ensures reads { OnlyReads B.state B.beside blocks.old blocks.new result }
 {
     match leaf(node, blocks, order, index)? {
         Some(b) => into.copy_from_slice(&blocks.read(b)?[place..place + into.len()]),

@@ -3,7 +3,7 @@ ghost use Rattle.std.specs.Prelude.{◌≡◌, ◌<◌, ◌≤◌, length, IfOk,
 ghost use Rattle.std.specs.Borrow.{sem};
 ghost use Rattle.std.specs.Io.BufRead.{Rests};
 ghost use Rattle.std.specs.Option.{option_copied};
-ghost use Rattle.qx_blocks.specs.Calls.{HasStopCause, Keeps};
+ghost use Rattle.qx_blocks.specs.Calls.{OnlyReads};
 ghost use Rattle.qx_ptree.specs.Trees.{HasLevels, IsWorking, block_map};
 ghost use Rattle.qx_long.specs.LongNames.{long_name};
 
@@ -23,12 +23,11 @@ pub fn get<'a, B: Blocks>(
 ) -> Result<Option<&'a [u8]>, Stop>
     requires levels { HasLevels (B.state blocks.old).holdings.size long.now }
     requires works { IsTrue (B.state blocks.old).tells → IsWorking order (B.state blocks.old) long.now }
-    ensures short { IfOk result (λ name. IfSome name (λ lent. (0 < length lent.now) × (length lent.now ≤ 510))) }
+    ensures short { IfOk result (λ name.
+        IfSome name (λ lent. (0 < length lent.now) × (length lent.now ≤ 510))) }
     // What holds once the name is no longer lent.
     ensures* leaves { sem 𝓛 (Rests B.row blocks.entry (λ new.
-        Keeps (B.state blocks.old) (B.state new)
-        × (B.Blocks.aside new ≡ B.Blocks.aside blocks.old)
-        × HasStopCause (B.faults blocks.old) (B.faults new) result
+        OnlyReads B.state B.beside blocks.old new result
         × IfOk result (λ name. IsTrue (B.state new).tells → option_copied name ≡ long_name (block_map order (B.state blocks.old)) long.now number))) }
 {
     if u64::from(number) * blocks.size() as u64 >= long.size {

@@ -2,7 +2,7 @@
 ghost use Rattle.std.specs.Prelude.{◌≡◌, ◌<◌, ◌≤◌, ◌^◌, ℕ, true, Ok, Err, IfOk, IsTrue};
 ghost use Rattle.qx_geom.specs.Lists.{is_in};
 ghost use Rattle.qx_nodes.specs.Visits.{present_of};
-ghost use Rattle.qx_blocks.specs.Calls.{HasStopCause, Keeps};
+ghost use Rattle.qx_blocks.specs.Calls.{OnlyReads};
 ghost use Rattle.qx_ptree.specs.Trees.{HasLevels, IsWorking, block_map};
 ghost use Rattle.qx_long.specs.LongNames.{HasAbsent, IsAbsent};
 
@@ -15,14 +15,14 @@ use qx_ptree::first_hole;
 pub fn first_absent<B: Blocks>(long: &Root, blocks: &mut B, order: Order) -> Result<u32, Stop>
     requires levels { HasLevels (B.state blocks.old).holdings.size long.now }
     requires works { IsTrue (B.state blocks.old).tells → IsWorking order (B.state blocks.old) long.now }
-    requires room { IsTrue (B.state blocks.old).tells → HasAbsent (block_map order (B.state blocks.old)) long.now }
-    ensures absent { IfOk result (λ number. IsTrue (B.state blocks.new).tells → IsAbsent (block_map order (B.state blocks.old)) long.now number) }
+    requires room { IsTrue (B.state blocks.old).tells
+        → HasAbsent (block_map order (B.state blocks.old)) long.now }
+    ensures absent { IfOk result (λ number. IsTrue (B.state blocks.new).tells
+        → IsAbsent (block_map order (B.state blocks.old)) long.now number) }
     ensures least { IfOk result (λ number. IsTrue (B.state blocks.new).tells → (i : ℕ) → i < number
         → is_in (present_of (block_map order (B.state blocks.old)) long.now) i ≡ true) }
 
-    ensures keeps { Keeps (B.state blocks.old) (B.state blocks.new) }
-    ensures aside { B.Blocks.aside blocks.new ≡ B.Blocks.aside blocks.old }
-    ensures cause { HasStopCause (B.faults blocks.old) (B.faults blocks.new) result }
+    ensures reads { OnlyReads B.state B.beside blocks.old blocks.new result }
 {
     number_of(first_hole(long, blocks, order)?)
 }

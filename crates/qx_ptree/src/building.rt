@@ -4,7 +4,8 @@ ghost use Rattle.qx_geom.specs.Layout.{levels_for};
 ghost use Rattle.qx_geom.specs.Lists.{Distinct};
 ghost use Rattle.qx_geom.specs.Pointer.{absent, per_block};
 ghost use Rattle.qx_blocks.specs.BlockState.{IsConsistent};
-ghost use Rattle.qx_blocks.specs.Calls.{HasStopCause, Keeps, MakesReady};
+ghost use Rattle.qx_blocks.specs.Beside.{LeavesBeside};
+ghost use Rattle.qx_blocks.specs.Calls.{Keeps, MakesReady, OnlyReads};
 ghost use Rattle.qx_ptree.specs.Alterations.{alteration_of, fresh_count};
 ghost use Rattle.qx_ptree.specs.Altered.{IsPrepared};
 ghost use Rattle.qx_ptree.specs.Building.{BuildsOnto, GivesUp, LiesOnSpine, LiesOutside, LiesUnder, WritesBlock, WritesLeaf, one_block, pointer_bytes};
@@ -50,7 +51,8 @@ pub fn prepare<B: Blocks>(
     requires change { IsChange (B.state blocks.old).holdings.size change.now }
     requires works { IsTrue (B.state blocks.old).tells → IsWorking order (B.state blocks.old) node.now }
     requires regular { IsTrue (B.state blocks.old).tells → IsRegular order (B.state blocks.old) node.now }
-    requires room { IsTrue (B.state blocks.old).tells → fresh_count (alteration_of order (B.state blocks.old) node.now change.now) ≤ (B.state blocks.old).holdings.free }
+    requires room { IsTrue (B.state blocks.old).tells
+        → fresh_count (alteration_of order (B.state blocks.old) node.now change.now) ≤ (B.state blocks.old).holdings.free }
     ensures node { IfOk result (λ p. p.node ≡ node.now) }
     ensures change { IfOk result (λ p. p.change ≡ change.now) }
     ensures size { IfOk result (λ p. p.root.size ≡ change.now.size) }
@@ -59,14 +61,16 @@ pub fn prepare<B: Blocks>(
     ensures ready { IfOk result (λ p. CanCommit (B.state blocks.new) p) }
 
     // What is written is ready once it is committed, also where bytes aren't told.
-    ensures written { IfOk result (λ p. (m : _) → OwnAsLeft p (B.state blocks.new) m → IsReadyApart order (committed m p) p.root (IsWrittenBy change.now)) }
-    ensures own { IfOk result (λ p. (m : _) → OwnAsLeft p (B.state blocks.new) m → StandIn order (committed m p) p.root (IsWrittenBy change.now) (blocks_of p)) }
+    ensures written { IfOk result (λ p. (m : _) → OwnAsLeft p (B.state blocks.new) m
+        → IsReadyApart order (committed m p) p.root (IsWrittenBy change.now)) }
+    ensures own { IfOk result (λ p. (m : _) → OwnAsLeft p (B.state blocks.new) m
+        → StandIn order (committed m p) p.root (IsWrittenBy change.now) (blocks_of p)) }
 
-    ensures prepared { IfOk result (λ p. IsTrue (B.state blocks.new).tells → IsPrepared order (B.state blocks.old) (B.state blocks.new) p) }
+    ensures prepared { IfOk result (λ p. IsTrue (B.state blocks.new).tells
+        → IsPrepared order (B.state blocks.old) (B.state blocks.new) p) }
 
     ensures err { OnErr result (Takes [] (B.state blocks.old) (B.state blocks.new)) }
-    ensures aside { B.Blocks.aside blocks.new ≡ B.Blocks.aside blocks.old }
-    ensures cause { HasStopCause (B.faults blocks.old) (B.faults blocks.new) result }
+    ensures others { LeavesBeside (B.beside blocks.old) (B.beside blocks.new) result }
 {
     let plan = Plan {
         node: *node,
@@ -96,14 +100,14 @@ fn prepare_distinct<B: Blocks>(
     work: &mut Work,
 ) -> Result<Root, Stop>
     requires plan { IsPlan (B.state blocks.old) plan.now }
-    ensures built { IfOk result (λ root. BuildsNode (B.state blocks.old) (B.state blocks.new) work.old work.new plan.now root) }
+    ensures built { IfOk result (λ root. BuildsNode (B.state blocks.old) (B.state blocks.new)
+        work.old work.new plan.now root) }
     ensures distinct { OnOk result (Distinct (all_blocks work.new)) }
     ensures consistent { IsConsistent (B.state blocks.old) }
     ensures after { OnOk result (IsConsistent (B.state blocks.new)) }
     ensures long { length plan.now.node.pointers ≡ 16 }
     ensures err { OnErr result (Adds (B.state blocks.old) (B.state blocks.new) work.old work.new) }
-    ensures aside { B.Blocks.aside blocks.new ≡ B.Blocks.aside blocks.old }
-    ensures cause { HasStopCause (B.faults blocks.old) (B.faults blocks.new) result }
+    ensures others { LeavesBeside (B.beside blocks.old) (B.beside blocks.new) result }
 {
     let root = prepare_tree(alloc, blocks, plan, work)?;
     if work.is_distinct(alloc)? {
@@ -121,13 +125,13 @@ fn prepare_tree<B: Blocks>(
     work: &mut Work,
 ) -> Result<Root, Stop>
     requires plan { IsPlan (B.state blocks.old) plan.now }
-    ensures built { IfOk result (λ root. BuildsNode (B.state blocks.old) (B.state blocks.new) work.old work.new plan.now root) }
+    ensures built { IfOk result (λ root. BuildsNode (B.state blocks.old) (B.state blocks.new)
+        work.old work.new plan.now root) }
     ensures consistent { IsConsistent (B.state blocks.old) }
     ensures after { OnOk result (IsConsistent (B.state blocks.new)) }
     ensures long { length plan.now.node.pointers ≡ 16 }
     ensures err { OnErr result (Adds (B.state blocks.old) (B.state blocks.new) work.old work.new) }
-    ensures aside { B.Blocks.aside blocks.new ≡ B.Blocks.aside blocks.old }
-    ensures cause { HasStopCause (B.faults blocks.old) (B.faults blocks.new) result }
+    ensures others { LeavesBeside (B.beside blocks.old) (B.beside blocks.new) result }
 {
     let size = blocks.size();
     let level = levels(plan.change.size.div_ceil(size as u64), size as u32);
@@ -157,20 +161,26 @@ fn prepare_at<B: Blocks>(
     pointer: u32,
 ) -> Result<Below, Stop>
     requires reach { InReach (B.state blocks.old).holdings.size level index }
-    requires level { level ≤ levels_for (B.state blocks.old).holdings.size (leaves_after (B.state blocks.old).holdings.size plan.now.change) }
+    requires level { level
+        ≤ levels_for (B.state blocks.old).holdings.size (leaves_after (B.state blocks.old).holdings.size plan.now.change) }
     requires long { length plan.now.node.pointers ≡ 16 }
     requires plan { IsPlan (B.state blocks.old) plan.now }
-    requires pointer { IsTrue (B.state blocks.old).tells → pointer ≡ planned_pointer plan.now (B.state blocks.old) level index }
-    ensures built { IfOk result (λ below. BuildsOnto (B.state blocks.old) (B.state blocks.new) work.old work.new plan.now (one_block level index) (λ _. below.pointer)) }
-    ensures changed { IfOk result (λ below. IsTrue (B.state blocks.new).tells → below.changed ≡ (part_of (alteration_in plan.now (B.state blocks.old)) level index).changed) }
-    ensures present { IfOk result (λ below. IsTrue (B.state blocks.new).tells → below.present ≡ (part_of (alteration_in plan.now (B.state blocks.old)) level index).present) }
+    requires pointer { IsTrue (B.state blocks.old).tells
+        → pointer ≡ planned_pointer plan.now (B.state blocks.old) level index }
+    ensures built { IfOk result (λ below. BuildsOnto (B.state blocks.old) (B.state blocks.new)
+        work.old work.new plan.now (one_block level index) (λ _. below.pointer)) }
+    ensures changed { IfOk result (λ below. IsTrue (B.state blocks.new).tells
+        → below.changed ≡ (part_of (alteration_in plan.now (B.state blocks.old)) level index).changed) }
+    ensures present { IfOk result (λ below. IsTrue (B.state blocks.new).tells
+        → below.present ≡ (part_of (alteration_in plan.now (B.state blocks.old)) level index).present) }
 
-    ensures reaches { IfOk result (λ below. ReachesOnto (B.state blocks.old) (B.state blocks.new) work.old work.new plan.now (one_block level index) (λ _. below.pointer)) }
-    ensures marked { IfOk result (λ below. IsMarked (B.state blocks.old) plan.now (one_block level index) below.changed below.present) }
+    ensures reaches { IfOk result (λ below. ReachesOnto (B.state blocks.old) (B.state blocks.new)
+        work.old work.new plan.now (one_block level index) (λ _. below.pointer)) }
+    ensures marked { IfOk result (λ below. IsMarked (B.state blocks.old) plan.now
+        (one_block level index) below.changed below.present) }
     ensures consistent { IsConsistent (B.state blocks.old) }
     ensures err { OnErr result (Adds (B.state blocks.old) (B.state blocks.new) work.old work.new) }
-    ensures aside { B.Blocks.aside blocks.new ≡ B.Blocks.aside blocks.old }
-    ensures cause { HasStopCause (B.faults blocks.old) (B.faults blocks.new) result }
+    ensures others { LeavesBeside (B.beside blocks.old) (B.beside blocks.new) result }
 {
     let pointer = leading(blocks, pointer);
     match alike_fate(blocks, plan, level, index) {
@@ -238,16 +248,21 @@ fn prepare_leaf<B: Blocks>(
     requires long { length plan.now.node.pointers ≡ 16 }
     requires plan { IsPlan (B.state blocks.old) plan.now }
     requires leads { ¬ (pointer ≡ absent) → IsTrue ((B.state blocks.old).holdings.works pointer) }
-    requires pointer { IsTrue (B.state blocks.old).tells → pointer ≡ planned_pointer plan.now (B.state blocks.old) 0 index }
-    ensures built { IfOk result (λ below. BuildsOnto (B.state blocks.old) (B.state blocks.new) work.old work.new plan.now (one_block 0 index) (λ _. below.pointer)) }
-    ensures changed { IfOk result (λ below. IsTrue (B.state blocks.new).tells → below.changed ≡ (part_of (alteration_in plan.now (B.state blocks.old)) 0 index).changed) }
-    ensures present { IfOk result (λ below. IsTrue (B.state blocks.new).tells → below.present ≡ (part_of (alteration_in plan.now (B.state blocks.old)) 0 index).present) }
+    requires pointer { IsTrue (B.state blocks.old).tells
+        → pointer ≡ planned_pointer plan.now (B.state blocks.old) 0 index }
+    ensures built { IfOk result (λ below. BuildsOnto (B.state blocks.old) (B.state blocks.new)
+        work.old work.new plan.now (one_block 0 index) (λ _. below.pointer)) }
+    ensures changed { IfOk result (λ below. IsTrue (B.state blocks.new).tells
+        → below.changed ≡ (part_of (alteration_in plan.now (B.state blocks.old)) 0 index).changed) }
+    ensures present { IfOk result (λ below. IsTrue (B.state blocks.new).tells
+        → below.present ≡ (part_of (alteration_in plan.now (B.state blocks.old)) 0 index).present) }
 
-    ensures reaches { IfOk result (λ below. ReachesOnto (B.state blocks.old) (B.state blocks.new) work.old work.new plan.now (one_block 0 index) (λ _. below.pointer)) }
-    ensures marked { IfOk result (λ below. IsMarked (B.state blocks.old) plan.now (one_block 0 index) below.changed below.present) }
+    ensures reaches { IfOk result (λ below. ReachesOnto (B.state blocks.old) (B.state blocks.new)
+        work.old work.new plan.now (one_block 0 index) (λ _. below.pointer)) }
+    ensures marked { IfOk result (λ below. IsMarked (B.state blocks.old) plan.now
+        (one_block 0 index) below.changed below.present) }
     ensures err { OnErr result (Adds (B.state blocks.old) (B.state blocks.new) work.old work.new) }
-    ensures aside { B.Blocks.aside blocks.new ≡ B.Blocks.aside blocks.old }
-    ensures cause { HasStopCause (B.faults blocks.old) (B.faults blocks.new) result }
+    ensures others { LeavesBeside (B.beside blocks.old) (B.beside blocks.new) result }
 {
     let leaves = plan.change.size.div_ceil(blocks.size() as u64);
     match leaf_fate(&plan.change, leaves, index) {
@@ -275,11 +290,11 @@ fn prepare_leaf<B: Blocks>(
 // The block for a leaf that is written: its own, where the working tree alone holds it, or a fresh one with its bytes.
 fn written_leaf<B: Blocks>(blocks: &mut B, work: &mut Work, pointer: u32) -> Result<u32, Stop>
     requires leads { ¬ (pointer ≡ absent) → IsTrue ((B.state blocks.old).holdings.works pointer) }
-    ensures written { IfOk result (λ b. WritesLeaf (B.state blocks.old) (B.state blocks.new) work.old work.new pointer b) }
+    ensures written { IfOk result (λ b. WritesLeaf (B.state blocks.old) (B.state blocks.new)
+        work.old work.new pointer b) }
 
     ensures err { OnErr result (Adds (B.state blocks.old) (B.state blocks.new) work.old work.new) }
-    ensures aside { B.Blocks.aside blocks.new ≡ B.Blocks.aside blocks.old }
-    ensures cause { HasStopCause (B.faults blocks.old) (B.faults blocks.new) result }
+    ensures others { LeavesBeside (B.beside blocks.old) (B.beside blocks.new) result }
 {
     if pointer == ABSENT {
         return work.take(blocks);
@@ -308,11 +323,11 @@ fn prepare_block<B: Blocks>(
     requires leads { ¬ (pointer ≡ absent) → IsTrue ((B.state blocks.old).holdings.works pointer) }
     requires long { length pointers.now ≡ per_block (B.state blocks.old).holdings.size }
     ensures fit { (v : ℕ) → slice_index pointers.now v < 2 ^ 32 }
-    ensures written { IfOk result (λ b. WritesBlock order (B.state blocks.old) (B.state blocks.new) work.old work.new pointer pointers.now changed present b) }
+    ensures written { IfOk result (λ b. WritesBlock order (B.state blocks.old) (B.state blocks.new)
+        work.old work.new pointer pointers.now changed present b) }
 
     ensures err { OnErr result (Adds (B.state blocks.old) (B.state blocks.new) work.old work.new) }
-    ensures aside { B.Blocks.aside blocks.new ≡ B.Blocks.aside blocks.old }
-    ensures cause { HasStopCause (B.faults blocks.old) (B.faults blocks.new) result }
+    ensures others { LeavesBeside (B.beside blocks.old) (B.beside blocks.new) result }
 {
     let had = pointer != ABSENT;
     if !present {
@@ -350,8 +365,7 @@ fn take_filled<B: Blocks>(
 
     ensures err { OnErr result (Keeps (B.state blocks.old) (B.state blocks.new)) }
     ensures same { OnErr result (work.new ≡ work.old) }
-    ensures aside { B.Blocks.aside blocks.new ≡ B.Blocks.aside blocks.old }
-    ensures cause { HasStopCause (B.faults blocks.old) (B.faults blocks.new) result }
+    ensures others { LeavesBeside (B.beside blocks.old) (B.beside blocks.new) result }
 {
     let b = work.take(blocks)?;
     put32s(order, blocks.edit(b), 0, pointers);
@@ -376,8 +390,7 @@ fn edit_block<B: Blocks>(
     }) }
 
     ensures err { OnErr result (Adds (B.state blocks.old) (B.state blocks.new) work.old work.new) }
-    ensures aside { B.Blocks.aside blocks.new ≡ B.Blocks.aside blocks.old }
-    ensures cause { HasStopCause (B.faults blocks.old) (B.faults blocks.new) result }
+    ensures others { LeavesBeside (B.beside blocks.old) (B.beside blocks.new) result }
 {
     let mut bytes = vec![in alloc; 0; blocks.size()]?;
     put32s(order, bytes.as_mut_slice(), 0, pointers);
@@ -399,12 +412,12 @@ fn give_up_below<B: Blocks>(
     requires within { (level ≤ plan.now.node.levels) ⊎ ¬ (index ≡ 0) }
     requires long { length plan.now.node.pointers ≡ 16 }
     requires plan { IsPlan (B.state blocks.old) plan.now }
-    requires pointer { IsTrue (B.state blocks.old).tells → pointer ≡ planned_pointer plan.now (B.state blocks.old) level index }
-    ensures gone { GivesUp (B.state blocks.old) (B.state blocks.new) work.old work.new plan.now (LiesUnder (per_block (B.state blocks.old).holdings.size) (one_block level index)) result }
+    requires pointer { IsTrue (B.state blocks.old).tells
+        → pointer ≡ planned_pointer plan.now (B.state blocks.old) level index }
+    ensures gone { GivesUp (B.state blocks.old) (B.state blocks.new) work.old work.new plan.now
+        (LiesUnder (per_block (B.state blocks.old).holdings.size) (one_block level index)) result }
 
-    ensures keeps { Keeps (B.state blocks.old) (B.state blocks.new) }
-    ensures aside { B.Blocks.aside blocks.new ≡ B.Blocks.aside blocks.old }
-    ensures cause { HasStopCause (B.faults blocks.old) (B.faults blocks.new) result }
+    ensures reads { OnlyReads B.state B.beside blocks.old blocks.new result }
 {
     let pointer = leading(blocks, pointer);
     if pointer == ABSENT {
@@ -437,18 +450,18 @@ fn give_up_each<B: Blocks>(
     first: u64,
     pointers: &[u32],
 ) -> Result<(), Stop>
-    requires reach { 0 < length pointers.now → InReach (B.state blocks.old).holdings.size level (first + length pointers.now - 1) }
+    requires reach { 0 < length pointers.now
+        → InReach (B.state blocks.old).holdings.size level (first + length pointers.now - 1) }
     requires within { (level ≤ plan.now.node.levels) ⊎ ¬ (first ≡ 0) }
     requires consistent { IsConsistent (B.state blocks.old) }
     requires long { length plan.now.node.pointers ≡ 16 }
     requires plan { IsPlan (B.state blocks.old) plan.now }
     requires pointers { IsTrue (B.state blocks.old).tells → (w : ℕ) → w < length pointers.now
         → slice_index pointers.now w ≡ planned_pointer plan.now (B.state blocks.old) level (first + w) }
-    ensures gone { GivesUp (B.state blocks.old) (B.state blocks.new) work.old work.new plan.now (LiesUnder (per_block (B.state blocks.old).holdings.size) (record { level = level; first = first; count = length pointers.now })) result }
+    ensures gone { GivesUp (B.state blocks.old) (B.state blocks.new) work.old work.new plan.now
+        (LiesUnder (per_block (B.state blocks.old).holdings.size) (record { level = level; first = first; count = length pointers.now })) result }
 
-    ensures keeps { Keeps (B.state blocks.old) (B.state blocks.new) }
-    ensures aside { B.Blocks.aside blocks.new ≡ B.Blocks.aside blocks.old }
-    ensures cause { HasStopCause (B.faults blocks.old) (B.faults blocks.new) result }
+    ensures reads { OnlyReads B.state B.beside blocks.old blocks.new result }
 {
     for (w, pointer) in pointers.iter().enumerate() {
         give_up_below(blocks, plan, work, level, first + w as u64, *pointer)?;
@@ -466,11 +479,10 @@ fn give_up_outside<B: Blocks>(
     requires consistent { IsConsistent (B.state blocks.old) }
     requires long { length plan.now.node.pointers ≡ 16 }
     requires plan { IsPlan (B.state blocks.old) plan.now }
-    ensures gone { GivesUp (B.state blocks.old) (B.state blocks.new) work.old work.new plan.now (LiesOutside (per_block (B.state blocks.old).holdings.size) level) result }
+    ensures gone { GivesUp (B.state blocks.old) (B.state blocks.new) work.old work.new plan.now
+        (LiesOutside (per_block (B.state blocks.old).holdings.size) level) result }
 
-    ensures keeps { Keeps (B.state blocks.old) (B.state blocks.new) }
-    ensures aside { B.Blocks.aside blocks.new ≡ B.Blocks.aside blocks.old }
-    ensures cause { HasStopCause (B.faults blocks.old) (B.faults blocks.new) result }
+    ensures reads { OnlyReads B.state B.beside blocks.old blocks.new result }
 {
     let top = plan.node.levels;
     if top <= level {
@@ -492,12 +504,12 @@ fn give_up_spine<B: Blocks>(
     requires above { (level < above) × (above ≤ plan.now.node.levels) }
     requires long { length plan.now.node.pointers ≡ 16 }
     requires plan { IsPlan (B.state blocks.old) plan.now }
-    requires pointer { IsTrue (B.state blocks.old).tells → pointer ≡ planned_pointer plan.now (B.state blocks.old) above 0 }
-    ensures gone { GivesUp (B.state blocks.old) (B.state blocks.new) work.old work.new plan.now (LiesOnSpine (per_block (B.state blocks.old).holdings.size) level above) result }
+    requires pointer { IsTrue (B.state blocks.old).tells
+        → pointer ≡ planned_pointer plan.now (B.state blocks.old) above 0 }
+    ensures gone { GivesUp (B.state blocks.old) (B.state blocks.new) work.old work.new plan.now
+        (LiesOnSpine (per_block (B.state blocks.old).holdings.size) level above) result }
 
-    ensures keeps { Keeps (B.state blocks.old) (B.state blocks.new) }
-    ensures aside { B.Blocks.aside blocks.new ≡ B.Blocks.aside blocks.old }
-    ensures cause { HasStopCause (B.faults blocks.old) (B.faults blocks.new) result }
+    ensures reads { OnlyReads B.state B.beside blocks.old blocks.new result }
 {
     let pointer = leading(blocks, pointer);
     if pointer == ABSENT {

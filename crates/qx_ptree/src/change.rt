@@ -46,7 +46,8 @@ pub(crate) fn leaf_fate(change: &Change, leaves: u64, index: u64) -> Fate
 // What becomes of each of `count` leaves from `from` on, where it is seen to be the same for all.
 pub(crate) fn common_fate(change: &Change, leaves: u64, from: u64, count: u64) -> Option<Fate>
     requires { from + count < 2 ^ 64 }
-    ensures { IfSome result (λ fate. (i : ℕ) → from ≤ i → i < from + count → fate_of leaves change.now i ≡ fate) }
+    ensures { IfSome result (λ fate. (i : ℕ) → from ≤ i → i < from + count
+        → fate_of leaves change.now i ≡ fate) }
 {
     let to = from + count;
     if change.first <= from && to - change.first <= change.count {

@@ -3,7 +3,7 @@ ghost use Rattle.std.specs.Prelude.{◌≡◌, ℕ, ◌≤◌, ◌<◌, ◌+◌,
 ghost use Rattle.qx_geom.specs.Layout.{levels_for};
 ghost use Rattle.qx_geom.specs.Pointer.{absent, per_block};
 ghost use Rattle.qx_blocks.specs.BlockState.{IsConsistent};
-ghost use Rattle.qx_blocks.specs.Calls.{HasStopCause, Keeps};
+ghost use Rattle.qx_blocks.specs.Calls.{OnlyReads};
 ghost use Rattle.qx_ptree.specs.Alterations.{alteration_of, fresh_count};
 ghost use Rattle.qx_ptree.specs.Fates.{IsChange, fate_of, leaves_after};
 ghost use Rattle.qx_ptree.specs.Parts.{part_of};
@@ -36,13 +36,12 @@ pub fn need<B: Blocks>(
     requires change { IsChange (B.state blocks.old).holdings.size change.now }
     requires works { IsTrue (B.state blocks.old).tells → IsWorking order (B.state blocks.old) node.now }
     requires regular { IsTrue (B.state blocks.old).tells → IsRegular order (B.state blocks.old) node.now }
-    ensures need { IfOk result (λ need. IsTrue (B.state blocks.new).tells → need ≡ fresh_count (alteration_of order (B.state blocks.old) node.now change.now)) }
+    ensures need { IfOk result (λ need. IsTrue (B.state blocks.new).tells
+        → need ≡ fresh_count (alteration_of order (B.state blocks.old) node.now change.now)) }
     // So that the needs of several changes can be summed, also where bytes aren't told.
     ensures few { IfOk result (λ need. need ≤ 2 ^ 55) }
 
-    ensures keeps { Keeps (B.state blocks.old) (B.state blocks.new) }
-    ensures aside { B.Blocks.aside blocks.new ≡ B.Blocks.aside blocks.old }
-    ensures cause { HasStopCause (B.faults blocks.old) (B.faults blocks.new) result }
+    ensures reads { OnlyReads B.state B.beside blocks.old blocks.new result }
 {
     let plan = Plan {
         node: *node,
@@ -71,15 +70,15 @@ fn part_at<B: Blocks>(
     requires reach { InReach (B.state blocks.old).holdings.size level index }
     requires plan { IsPlan (B.state blocks.old) plan.now }
     requires long { length plan.now.node.pointers ≡ 16 }
-    requires pointer { IsTrue (B.state blocks.old).tells → pointer ≡ planned_pointer plan.now (B.state blocks.old) level index }
+    requires pointer { IsTrue (B.state blocks.old).tells
+        → pointer ≡ planned_pointer plan.now (B.state blocks.old) level index }
     ensures part { IfOk result (λ part. IsTrue (B.state blocks.new).tells
         → level ≤ levels_for (B.state blocks.old).holdings.size (leaves_after (B.state blocks.old).holdings.size plan.now.change)
         → part ≡ part_of (alteration_in plan.now (B.state blocks.old)) level index) }
-    ensures few { IfOk result (λ part. part.need + 1 ≤ 2 * per_block (B.state blocks.old).holdings.size ^ level) }
+    ensures few { IfOk result (λ part.
+        part.need + 1 ≤ 2 * per_block (B.state blocks.old).holdings.size ^ level) }
 
-    ensures keeps { Keeps (B.state blocks.old) (B.state blocks.new) }
-    ensures aside { B.Blocks.aside blocks.new ≡ B.Blocks.aside blocks.old }
-    ensures cause { HasStopCause (B.faults blocks.old) (B.faults blocks.new) result }
+    ensures reads { OnlyReads B.state B.beside blocks.old blocks.new result }
 {
     let pointer = leading(blocks, pointer);
     if let Some(part) = alike_part(blocks, plan, level, index, pointer) {
@@ -109,8 +108,10 @@ fn part_at<B: Blocks>(
 fn part_of_leaf<B: Blocks>(blocks: &B, plan: &Plan, index: u64, pointer: u32) -> Part
     requires plan { IsPlan (B.state blocks.now) plan.now }
     requires long { length plan.now.node.pointers ≡ 16 }
-    requires pointer { IsTrue (B.state blocks.now).tells → pointer ≡ planned_pointer plan.now (B.state blocks.now) 0 index }
-    ensures part { IsTrue (B.state blocks.now).tells → result ≡ part_of (alteration_in plan.now (B.state blocks.now)) 0 index }
+    requires pointer { IsTrue (B.state blocks.now).tells
+        → pointer ≡ planned_pointer plan.now (B.state blocks.now) 0 index }
+    ensures part { IsTrue (B.state blocks.now).tells
+        → result ≡ part_of (alteration_in plan.now (B.state blocks.now)) 0 index }
     ensures few { result.need ≤ 1 }
 {
     let leaves = plan.change.size.div_ceil(blocks.size() as u64);
@@ -134,11 +135,13 @@ fn alike_part<B: Blocks>(
     requires reach { InReach (B.state blocks.now).holdings.size level index }
     requires plan { IsPlan (B.state blocks.now) plan.now }
     requires long { length plan.now.node.pointers ≡ 16 }
-    requires pointer { IsTrue (B.state blocks.now).tells → pointer ≡ planned_pointer plan.now (B.state blocks.now) level index }
+    requires pointer { IsTrue (B.state blocks.now).tells
+        → pointer ≡ planned_pointer plan.now (B.state blocks.now) level index }
     ensures part { IfSome result (λ part. IsTrue (B.state blocks.now).tells
         → level ≤ levels_for (B.state blocks.now).holdings.size (leaves_after (B.state blocks.now).holdings.size plan.now.change)
         → part ≡ part_of (alteration_in plan.now (B.state blocks.now)) level index) }
-    ensures few { IfSome result (λ part. part.need + 1 ≤ 2 * per_block (B.state blocks.now).holdings.size ^ level) }
+    ensures few { IfSome result (λ part.
+        part.need + 1 ≤ 2 * per_block (B.state blocks.now).holdings.size ^ level) }
 {
     let had = pointer != ABSENT;
     match alike_fate(blocks, plan, level, index)? {
@@ -155,7 +158,8 @@ fn alike_part<B: Blocks>(
 // What becomes of each leaf below block `index` of a level, where it is seen to be the same for all.
 pub(crate) fn alike_fate<B: Blocks>(blocks: &B, plan: &Plan, level: u8, index: u64) -> Option<Fate>
     requires reach { InReach (B.state blocks.now).holdings.size level index }
-    ensures fate { IfSome result (λ fate. (i : ℕ) → index * per_block (B.state blocks.now).holdings.size ^ level ≤ i
+    ensures fate { IfSome result (λ fate. (i : ℕ)
+        → index * per_block (B.state blocks.now).holdings.size ^ level ≤ i
         → i < (index + 1) * per_block (B.state blocks.now).holdings.size ^ level
         → fate_of (leaves_after (B.state blocks.now).holdings.size plan.now.change) plan.now.change i ≡ fate) }
     ensures level { IfSome result (λ fate. (level ≤ plan.now.node.levels) ⊎ ¬ (index ≡ 0)) }

@@ -4,7 +4,7 @@ ghost use Rattle.qx_geom.specs.Lists.{is_in};
 ghost use Rattle.qx_geom.specs.Pointer.{per_block};
 ghost use Rattle.qx_nodes.specs.BlockMap.{word};
 ghost use Rattle.qx_nodes.specs.Visits.{present_of};
-ghost use Rattle.qx_blocks.specs.Calls.{HasStopCause, Keeps};
+ghost use Rattle.qx_blocks.specs.Calls.{OnlyReads};
 ghost use Rattle.qx_ptree.specs.Holes.{IsLeastLack, StandsAt};
 ghost use Rattle.qx_ptree.specs.Plans.{InReach};
 ghost use Rattle.qx_ptree.specs.Trees.{HasLevels, IsWorking, block_map};
@@ -18,14 +18,14 @@ use qx_geom::{ABSENT, Root};
 pub fn first_hole<B: Blocks>(node: &Root, blocks: &mut B, order: Order) -> Result<u64, Stop>
     requires levels { HasLevels (B.state blocks.old).holdings.size node.now }
     requires works { IsTrue (B.state blocks.old).tells → IsWorking order (B.state blocks.old) node.now }
-    ensures absent { IfOk result (λ hole. IsTrue (B.state blocks.new).tells → is_in (present_of (block_map order (B.state blocks.old)) node.now) hole ≡ false) }
+    ensures absent { IfOk result (λ hole. IsTrue (B.state blocks.new).tells
+        → is_in (present_of (block_map order (B.state blocks.old)) node.now) hole ≡ false) }
     ensures least { IfOk result (λ hole. IsTrue (B.state blocks.new).tells → (i : ℕ) → i < hole
         → is_in (present_of (block_map order (B.state blocks.old)) node.now) i ≡ true) }
-    ensures reached { IfOk result (λ hole. hole ≤ 16 * per_block (B.state blocks.old).holdings.size ^ node.now.levels) }
+    ensures reached { IfOk result (λ hole.
+        hole ≤ 16 * per_block (B.state blocks.old).holdings.size ^ node.now.levels) }
 
-    ensures keeps { Keeps (B.state blocks.old) (B.state blocks.new) }
-    ensures aside { B.Blocks.aside blocks.new ≡ B.Blocks.aside blocks.old }
-    ensures cause { HasStopCause (B.faults blocks.old) (B.faults blocks.new) result }
+    ensures reads { OnlyReads B.state B.beside blocks.old blocks.new result }
 {
     let words = blocks.size() as u64 / 4;
     for (j, pointer) in node.pointers.iter().enumerate() {
@@ -48,15 +48,15 @@ fn hole_below<B: Blocks>(
 ) -> Result<Option<u64>, Stop>
     requires reach { InReach (B.state blocks.old).holdings.size level index }
     requires works { IsTrue (B.state blocks.old).tells → IsWorking order (B.state blocks.old) node.now }
-    requires stands { IsTrue (B.state blocks.old).tells → StandsAt (block_map order (B.state blocks.old)) node.now level index pointer }
+    requires stands { IsTrue (B.state blocks.old).tells
+        → StandsAt (block_map order (B.state blocks.old)) node.now level index pointer }
     ensures hole { IfOk result (λ hole. IsTrue (B.state blocks.new).tells
         → IsLeastLack (present_of (block_map order (B.state blocks.old)) node.now) (index * per_block (B.state blocks.old).holdings.size ^ level)
         ((index + 1) * per_block (B.state blocks.old).holdings.size ^ level) hole) }
-    ensures below { IfOk result (λ hole. IfSome hole (λ leaf. leaf < (index + 1) * per_block (B.state blocks.old).holdings.size ^ level)) }
+    ensures below { IfOk result (λ hole.
+        IfSome hole (λ leaf. leaf < (index + 1) * per_block (B.state blocks.old).holdings.size ^ level)) }
 
-    ensures keeps { Keeps (B.state blocks.old) (B.state blocks.new) }
-    ensures aside { B.Blocks.aside blocks.new ≡ B.Blocks.aside blocks.old }
-    ensures cause { HasStopCause (B.faults blocks.old) (B.faults blocks.new) result }
+    ensures reads { OnlyReads B.state B.beside blocks.old blocks.new result }
 {
     let size = blocks.size();
     let words = size / 4;
@@ -93,9 +93,7 @@ fn read_words<B: Blocks>(
     ensures words { OnOk result (IsTrue (B.state blocks.new).tells → (w : ℕ) → w < length into.old
         → slice_index into.new w ≡ word (block_map order (B.state blocks.old)) pointer w) }
 
-    ensures keeps { Keeps (B.state blocks.old) (B.state blocks.new) }
-    ensures aside { B.Blocks.aside blocks.new ≡ B.Blocks.aside blocks.old }
-    ensures cause { HasStopCause (B.faults blocks.old) (B.faults blocks.new) result }
+    ensures reads { OnlyReads B.state B.beside blocks.old blocks.new result }
 {
     let bytes = blocks.read(pointer)?;
     get32s(order, bytes, 0, into);

@@ -2,7 +2,7 @@
 ghost use Rattle.std.specs.Prelude.{◌≡◌, ◌<◌, ◌≤◌, IfOk, IfSome, IsTrue};
 ghost use Rattle.qx_geom.specs.Pointer.{ceil_div};
 ghost use Rattle.qx_nodes.specs.Leaves.{leaf_of, leaf_under};
-ghost use Rattle.qx_blocks.specs.Calls.{HasStopCause, Keeps};
+ghost use Rattle.qx_blocks.specs.Calls.{OnlyReads};
 ghost use Rattle.qx_ptree.specs.Trees.{HasLevels, IsWorking, PathLeads, block_map, leaf_at};
 
 use qx_blocks::{Blocks, Stop};
@@ -19,12 +19,11 @@ pub fn leaf<B: Blocks>(
     requires levels { HasLevels (B.state blocks.old).holdings.size node.now }
     requires below { index < ceil_div node.now.size (B.state blocks.old).holdings.size }
     requires works { IsTrue (B.state blocks.old).tells → IsWorking order (B.state blocks.old) node.now }
-    ensures found { IfOk result (λ found. IsTrue (B.state blocks.new).tells → leaf_at found ≡ leaf_of (block_map order (B.state blocks.old)) node.now index) }
+    ensures found { IfOk result (λ found. IsTrue (B.state blocks.new).tells
+        → leaf_at found ≡ leaf_of (block_map order (B.state blocks.old)) node.now index) }
     ensures held { IfOk result (λ found. IfSome found (λ b. IsTrue ((B.state blocks.old).holdings.works b))) }
 
-    ensures keeps { Keeps (B.state blocks.old) (B.state blocks.new) }
-    ensures aside { B.Blocks.aside blocks.new ≡ B.Blocks.aside blocks.old }
-    ensures cause { HasStopCause (B.faults blocks.old) (B.faults blocks.new) result }
+    ensures reads { OnlyReads B.state B.beside blocks.old blocks.new result }
 {
     let words = blocks.size() as u64 / 4;
     let top = index / words.pow(u32::from(node.levels));
@@ -46,13 +45,13 @@ fn leaf_below<B: Blocks>(
     index: u64,
 ) -> Result<Option<u32>, Stop>
     requires level { level ≤ 5 }
-    requires leads { IsTrue (B.state blocks.old).tells → PathLeads order (B.state blocks.old) level pointer index }
-    ensures found { IfOk result (λ found. IsTrue (B.state blocks.new).tells → leaf_at found ≡ leaf_under (block_map order (B.state blocks.old)) level pointer index) }
+    requires leads { IsTrue (B.state blocks.old).tells
+        → PathLeads order (B.state blocks.old) level pointer index }
+    ensures found { IfOk result (λ found. IsTrue (B.state blocks.new).tells
+        → leaf_at found ≡ leaf_under (block_map order (B.state blocks.old)) level pointer index) }
     ensures held { IfOk result (λ found. IfSome found (λ b. IsTrue ((B.state blocks.old).holdings.works b))) }
 
-    ensures keeps { Keeps (B.state blocks.old) (B.state blocks.new) }
-    ensures aside { B.Blocks.aside blocks.new ≡ B.Blocks.aside blocks.old }
-    ensures cause { HasStopCause (B.faults blocks.old) (B.faults blocks.new) result }
+    ensures reads { OnlyReads B.state B.beside blocks.old blocks.new result }
 {
     let words = blocks.size() as u64 / 4;
     // Where bytes aren't told, a pointer to a block that the tree doesn't hold counts as absent.

@@ -3,7 +3,7 @@ ghost use Rattle.std.specs.Prelude.{◌≡◌, ◌<◌, ◌≤◌, ◌+◌, ◌-
 ghost use Rattle.qx_geom.specs.Pointer.{absent, per_block};
 ghost use Rattle.qx_nodes.specs.BlockMap.{word};
 ghost use Rattle.qx_blocks.specs.BlockState.{IsConsistent};
-ghost use Rattle.qx_blocks.specs.Calls.{HasStopCause, Keeps};
+ghost use Rattle.qx_blocks.specs.Calls.{OnlyReads};
 ghost use Rattle.qx_ptree.specs.Trees.{Leads, block_map};
 ghost use Rattle.qx_ptree.specs.Plans.{IsPlan, planned_pointer};
 
@@ -46,9 +46,7 @@ fn read_pointers<B: Blocks>(
     ensures pointers { OnOk result (IsTrue (B.state blocks.new).tells → (w : ℕ) → w < length into.old
         → slice_index into.new w ≡ (if pointer == absent then absent else word (block_map order (B.state blocks.old)) pointer w)) }
 
-    ensures keeps { Keeps (B.state blocks.old) (B.state blocks.new) }
-    ensures aside { B.Blocks.aside blocks.new ≡ B.Blocks.aside blocks.old }
-    ensures cause { HasStopCause (B.faults blocks.old) (B.faults blocks.new) result }
+    ensures reads { OnlyReads B.state B.beside blocks.old blocks.new result }
 {
     let pointer = leading(blocks, pointer);
     if pointer == ABSENT {
@@ -73,14 +71,13 @@ pub(crate) fn pointers_below<B: Blocks>(
     requires room { length into.old ≡ per_block (B.state blocks.old).holdings.size }
     requires consistent { IsConsistent (B.state blocks.old) }
     requires plan { IsPlan (B.state blocks.old) plan.now }
-    requires pointer { IsTrue (B.state blocks.old).tells → pointer ≡ planned_pointer plan.now (B.state blocks.old) level index }
+    requires pointer { IsTrue (B.state blocks.old).tells
+        → pointer ≡ planned_pointer plan.now (B.state blocks.old) level index }
     ensures long { length into.new ≡ length into.old }
     ensures pointers { OnOk result (IsTrue (B.state blocks.new).tells → (w : ℕ) → w < length into.old
         → slice_index into.new w ≡ planned_pointer plan.now (B.state blocks.old) (level - 1) (index * per_block (B.state blocks.old).holdings.size + w)) }
 
-    ensures keeps { Keeps (B.state blocks.old) (B.state blocks.new) }
-    ensures aside { B.Blocks.aside blocks.new ≡ B.Blocks.aside blocks.old }
-    ensures cause { HasStopCause (B.faults blocks.old) (B.faults blocks.new) result }
+    ensures reads { OnlyReads B.state B.beside blocks.old blocks.new result }
 {
     let own = own_pointers(plan.node);
     if level != plan.node.levels + 1 || index != 0 {
@@ -104,9 +101,7 @@ pub(crate) fn top_pointers<B: Blocks>(
     ensures pointers { IfOk result (λ top. IsTrue (B.state blocks.new).tells → (j : ℕ) → j < 16
         → slice_index top j ≡ planned_pointer plan.now (B.state blocks.old) level j) }
 
-    ensures keeps { Keeps (B.state blocks.old) (B.state blocks.new) }
-    ensures aside { B.Blocks.aside blocks.new ≡ B.Blocks.aside blocks.old }
-    ensures cause { HasStopCause (B.faults blocks.old) (B.faults blocks.new) result }
+    ensures reads { OnlyReads B.state B.beside blocks.old blocks.new result }
 {
     let mut pointers = own_pointers(plan.node);
     if plan.node.levels < level {

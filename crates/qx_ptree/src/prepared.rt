@@ -37,9 +37,8 @@ pub fn commit<B: Blocks>(node: &mut Root, blocks: &mut B, p: Prepared)
     ensures node { node.new ≡ p.root }
     ensures blocks { B.state blocks.new ≡ committed (B.state blocks.old) p }
 
-    ensures others { LeavesOthers (blocks_of p) (B.state blocks.old) (B.state blocks.new) }
-    ensures aside { B.Blocks.aside blocks.new ≡ B.Blocks.aside blocks.old }
-    ensures faults { B.faults blocks.new ≡ B.faults blocks.old }
+    ensures rest { LeavesOthers (blocks_of p) (B.state blocks.old) (B.state blocks.new) }
+    ensures others { B.beside blocks.new ≡ B.beside blocks.old }
 {
     p.work.write_edits(blocks);
     p.work.give_all_up(blocks);
@@ -53,9 +52,8 @@ pub fn abandon<B: Blocks>(blocks: &mut B, p: Prepared)
     // Where nothing else came between, all is as it was before the change was prepared.
     ensures back { (m : _) → Takes p.work.fresh m (B.state blocks.old) → Takes [] m (B.state blocks.new) }
 
-    ensures others { LeavesOthers p.work.fresh (B.state blocks.old) (B.state blocks.new) }
-    ensures aside { B.Blocks.aside blocks.new ≡ B.Blocks.aside blocks.old }
-    ensures faults { B.faults blocks.new ≡ B.faults blocks.old }
+    ensures rest { LeavesOthers p.work.fresh (B.state blocks.old) (B.state blocks.new) }
+    ensures others { B.beside blocks.new ≡ B.beside blocks.old }
 {
     p.work.give_back(blocks);
 }

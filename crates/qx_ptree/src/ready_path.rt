@@ -20,8 +20,7 @@ pub fn ready_leaf<B: Blocks>(node: &Root, blocks: &mut B, order: Order, index: u
     ensures ready { IsTrue ((B.state blocks.old).holdings.ready result) }
 
     ensures same { B.state blocks.new ≡ B.state blocks.old }
-    ensures aside { B.Blocks.aside blocks.new ≡ B.Blocks.aside blocks.old }
-    ensures faults { B.faults blocks.new ≡ B.faults blocks.old }
+    ensures others { B.beside blocks.new ≡ B.beside blocks.old }
 {
     let words = blocks.size() as u64 / 4;
     let top = index / words.pow(u32::from(node.levels));
@@ -42,8 +41,7 @@ fn ready_below<B: Blocks>(blocks: &mut B, order: Order, level: u8, pointer: u32,
     ensures ready { IsTrue ((B.state blocks.old).holdings.ready result) }
 
     ensures same { B.state blocks.new ≡ B.state blocks.old }
-    ensures aside { B.Blocks.aside blocks.new ≡ B.Blocks.aside blocks.old }
-    ensures faults { B.faults blocks.new ≡ B.faults blocks.old }
+    ensures others { B.beside blocks.new ≡ B.beside blocks.old }
 {
     let words = blocks.size() as u64 / 4;
     if level == 0 {
@@ -61,8 +59,7 @@ fn ready_word<B: Blocks>(blocks: &mut B, order: Order, pointer: u32, w: u64) -> 
     ensures word { result ≡ word (block_map order (B.state blocks.old)) pointer w }
 
     ensures same { B.state blocks.new ≡ B.state blocks.old }
-    ensures aside { B.Blocks.aside blocks.new ≡ B.Blocks.aside blocks.old }
-    ensures faults { B.faults blocks.new ≡ B.faults blocks.old }
+    ensures others { B.beside blocks.new ≡ B.beside blocks.old }
 {
     // A block that is lent for writing is lent without fail, and here it isn't written.
     get32(order, blocks.edit(pointer), 4 * w as usize)

@@ -3,7 +3,8 @@ ghost use Rattle.std.specs.Prelude.{◌≡◌, ℕ, ◌+◌, ◌<◌, ◌↔◌,
 ghost use Rattle.std.specs.List.{list_any};
 ghost use Rattle.qx_geom.specs.Lists.{Distinct, is_in};
 ghost use Rattle.qx_blocks.specs.BlockState.{IsConsistent, with_bytes, with_fresh};
-ghost use Rattle.qx_blocks.specs.Calls.{HasStopCause, Keeps, MakesReady};
+ghost use Rattle.qx_blocks.specs.Beside.{LeavesBeside};
+ghost use Rattle.qx_blocks.specs.Calls.{Keeps, MakesReady};
 ghost use Rattle.qx_ptree.specs.Takings.{LeavesOthers, Takes};
 ghost use Rattle.qx_ptree.specs.WorkState.{CanEdit, all_blocks, no_work, with_edits, without_all};
 
@@ -60,8 +61,7 @@ impl Work {
         ensures err { OnErr result (B.state blocks.new ≡ B.state blocks.old) }
         ensures same { OnErr result (self.new ≡ self.old) }
         ensures refused { IfErr result (λ stop. stop ≡ Stop.NoMemory) }
-        ensures aside { B.Blocks.aside blocks.new ≡ B.Blocks.aside blocks.old }
-        ensures faults { B.faults blocks.new ≡ B.faults blocks.old }
+        ensures others { B.beside blocks.new ≡ B.beside blocks.old }
     {
         // Only bytes that aren't told lead here without a free block.
         if blocks.free() == 0 {
@@ -81,15 +81,16 @@ impl Work {
         ensures consistent { IsConsistent (B.state blocks.old) }
         ensures unheld { IfOk result (λ b. (B.state blocks.old).holdings.held b ≡ false) }
         ensures room { IfOk result (λ b. 0 < (B.state blocks.old).holdings.free) }
-        ensures holdings { IfOk result (λ b. (B.state blocks.new).holdings ≡ (with_fresh (B.state blocks.old) b).holdings) }
+        ensures holdings { IfOk result (λ b.
+            (B.state blocks.new).holdings ≡ (with_fresh (B.state blocks.old) b).holdings) }
         ensures told { IfOk result (λ b. IsTrue (B.state blocks.new).tells
             → B.state blocks.new ≡ with_bytes (with_fresh (B.state blocks.old) b) b ((B.state blocks.old).bytes from)) }
-        ensures ready { IfOk result (λ b. (q : _) → IsTrue ((B.state blocks.old).holdings.ready q) → (B.state blocks.new).bytes q ≡ (B.state blocks.old).bytes q) }
+        ensures ready { IfOk result (λ b. (q : _) → IsTrue ((B.state blocks.old).holdings.ready q)
+            → (B.state blocks.new).bytes q ≡ (B.state blocks.old).bytes q) }
         ensures noted { IfOk result (λ b. self.new ≡ record self.old { fresh = self.old.fresh ++ b ∷ [] }) }
         ensures err { OnErr result (Keeps (B.state blocks.old) (B.state blocks.new)) }
         ensures same { OnErr result (self.new ≡ self.old) }
-        ensures aside { B.Blocks.aside blocks.new ≡ B.Blocks.aside blocks.old }
-        ensures cause { HasStopCause (B.faults blocks.old) (B.faults blocks.new) result }
+        ensures others { LeavesBeside (B.beside blocks.old) (B.beside blocks.new) result }
     {
         // Only bytes that aren't told lead here without a free block.
         if blocks.free() == 0 {
@@ -110,8 +111,7 @@ impl Work {
         ensures noted { OnOk result (self.new ≡ record self.old { kept = self.old.kept ++ b ∷ [] }) }
         ensures err { OnErr result (Keeps (B.state blocks.old) (B.state blocks.new)) }
         ensures same { OnErr result (self.new ≡ self.old) }
-        ensures aside { B.Blocks.aside blocks.new ≡ B.Blocks.aside blocks.old }
-        ensures cause { HasStopCause (B.faults blocks.old) (B.faults blocks.new) result }
+        ensures others { LeavesBeside (B.beside blocks.old) (B.beside blocks.new) result }
     {
         self.kept.reserve(1)?;
         blocks.ready(b)?;
@@ -136,7 +136,9 @@ impl Work {
 
     // The commit is to give a pointer block these bytes.
     pub(crate) fn edit_later(&mut self, b: u32, bytes: Vec<u8>) -> Result<(), Stop>
-        ensures noted { OnOk result (self.new ≡ record self.old { edits = self.old.edits ++ (record { block = b; bytes = bytes.items }) ∷ [] }) }
+        ensures noted { OnOk result (self.new ≡ record self.old {
+          edits = self.old.edits ++ (record { block = b; bytes = bytes.items }) ∷ [];
+        }) }
         ensures same { OnErr result (self.new ≡ self.old) }
         ensures refused { IfErr result (λ stop. stop ≡ Stop.NoMemory) }
     {
@@ -151,9 +153,8 @@ impl Work {
     pub(crate) fn write_edits<B: Blocks>(&self, blocks: &mut B)
         requires { CanEdit (B.state blocks.old) self.now }
         ensures written { B.state blocks.new ≡ with_edits (B.state blocks.old) self.now.edits }
-        ensures others { LeavesOthers self.now.kept (B.state blocks.old) (B.state blocks.new) }
-        ensures aside { B.Blocks.aside blocks.new ≡ B.Blocks.aside blocks.old }
-        ensures faults { B.faults blocks.new ≡ B.faults blocks.old }
+        ensures rest { LeavesOthers self.now.kept (B.state blocks.old) (B.state blocks.new) }
+        ensures others { B.beside blocks.new ≡ B.beside blocks.old }
     {
         for edit in self.edits.iter() {
             blocks.edit(edit.block).copy_from_slice(&edit.bytes);
@@ -163,9 +164,8 @@ impl Work {
     // Gives up the blocks that the change leaves out.
     pub(crate) fn give_all_up<B: Blocks>(&self, blocks: &mut B)
         ensures released { B.state blocks.new ≡ without_all (B.state blocks.old) self.now.released }
-        ensures others { LeavesOthers self.now.released (B.state blocks.old) (B.state blocks.new) }
-        ensures aside { B.Blocks.aside blocks.new ≡ B.Blocks.aside blocks.old }
-        ensures faults { B.faults blocks.new ≡ B.faults blocks.old }
+        ensures rest { LeavesOthers self.now.released (B.state blocks.old) (B.state blocks.new) }
+        ensures others { B.beside blocks.new ≡ B.beside blocks.old }
     {
         release_all(blocks, &self.released);
     }
@@ -173,10 +173,10 @@ impl Work {
     // Gives back the blocks that were taken.
     pub(crate) fn give_back<B: Blocks>(&self, blocks: &mut B)
         ensures released { B.state blocks.new ≡ without_all (B.state blocks.old) self.now.fresh }
-        ensures back { (m : _) → Takes self.now.fresh m (B.state blocks.old) → Takes [] m (B.state blocks.new) }
-        ensures others { LeavesOthers self.now.fresh (B.state blocks.old) (B.state blocks.new) }
-        ensures aside { B.Blocks.aside blocks.new ≡ B.Blocks.aside blocks.old }
-        ensures faults { B.faults blocks.new ≡ B.faults blocks.old }
+        ensures back { (m : _) → Takes self.now.fresh m (B.state blocks.old)
+            → Takes [] m (B.state blocks.new) }
+        ensures rest { LeavesOthers self.now.fresh (B.state blocks.old) (B.state blocks.new) }
+        ensures others { B.beside blocks.new ≡ B.beside blocks.old }
     {
         release_all(blocks, &self.fresh);
     }
@@ -218,7 +218,8 @@ impl Work {
 
 // Whether no number is followed by itself.
 fn have_no_twins(blocks: &[u32]) -> bool
-    ensures { result ≡ true ↔ ((k : ℕ) → k + 1 < length blocks.now → ¬ (slice_index blocks.now k ≡ slice_index blocks.now (k + 1))) }
+    ensures { result ≡ true ↔ ((k : ℕ) → k + 1 < length blocks.now
+        → ¬ (slice_index blocks.now k ≡ slice_index blocks.now (k + 1))) }
 {
     for (k, b) in blocks.iter().enumerate() {
         if k + 1 < blocks.len() && *b == blocks[k + 1] {
@@ -231,8 +232,7 @@ fn have_no_twins(blocks: &[u32]) -> bool
 // Gives up the working tree's hold of these blocks, where it has one.
 fn release_all<B: Blocks>(blocks: &mut B, released: &[u32])
     ensures released { B.state blocks.new ≡ without_all (B.state blocks.old) released.now }
-    ensures aside { B.Blocks.aside blocks.new ≡ B.Blocks.aside blocks.old }
-    ensures faults { B.faults blocks.new ≡ B.faults blocks.old }
+    ensures others { B.beside blocks.new ≡ B.beside blocks.old }
 {
     for b in released {
         // What the tree doesn't hold any more is passed over.

@@ -69,17 +69,19 @@ pub fn checked_need<B: Blocks>(
 ) -> Result<u64, Refusal>
     requires node { IsNode order (B.state blocks.old) node.now }
     ensures change { OnOk result (IsChange (B.state blocks.old).holdings.size change.now) }
-    ensures need { IfOk result (λ need. IsTrue (B.state blocks.new).tells → need ≡ fresh_count (alteration_of order (B.state blocks.old) node.now change.now)) }
+    ensures need { IfOk result (λ need. IsTrue (B.state blocks.new).tells
+        → need ≡ fresh_count (alteration_of order (B.state blocks.old) node.now change.now)) }
     ensures room { IfOk result (λ need. need ≤ (B.state blocks.new).holdings.free) }
 
-    ensures reason { IfErr result (HasReason order (B.state blocks.old) node.now change.now (B.state blocks.new).tells (B.faults blocks.old) (B.faults blocks.new)) }
+    ensures reason { IfErr result (HasReason order (B.state blocks.old) node.now change.now
+        (B.state blocks.new).tells (B.beside blocks.old).faults (B.beside blocks.new).faults) }
 
     ensures keeps { Keeps (B.state blocks.old) (B.state blocks.new) }
     ensures node { IsNode order (B.state blocks.new) node.now }
     ensures consistent { OnOk result (IsConsistent (B.state blocks.new)) }
-    ensures later { B.faults blocks.old ≤ B.faults blocks.new }
+    ensures later { (B.beside blocks.old).faults ≤ (B.beside blocks.new).faults }
     ensures long { length node.now.pointers ≡ 16 }
-    ensures aside { B.Blocks.aside blocks.new ≡ B.Blocks.aside blocks.old }
+    ensures aside { (B.beside blocks.new).aside ≡ (B.beside blocks.old).aside }
 {
     // Only this says how many pointers the node has.
     let _pointers = pointers_of(*node);
@@ -102,17 +104,20 @@ pub fn change_node<B: Blocks>(
     change: &Change,
 ) -> Result<u64, Refusal>
     requires node { IsNode order (B.state blocks.old) node.old }
-    ensures made { IfOk result (λ need. IsTrue (B.state blocks.new).tells → need ≡ fresh_count (alteration_of order (B.state blocks.old) node.old change.now)) }
+    ensures made { IfOk result (λ need. IsTrue (B.state blocks.new).tells
+        → need ≡ fresh_count (alteration_of order (B.state blocks.old) node.old change.now)) }
     ensures size { OnOk result (node.new.size ≡ change.now.size) }
-    ensures written { OnOk result (IsReadyApart order (B.state blocks.new) node.new (IsWrittenBy change.now)) }
+    ensures written { OnOk result
+        (IsReadyApart order (B.state blocks.new) node.new (IsWrittenBy change.now)) }
 
-    ensures reason { IfErr result (HasReason order (B.state blocks.old) node.old change.now (B.state blocks.new).tells (B.faults blocks.old) (B.faults blocks.new)) }
+    ensures reason { IfErr result (HasReason order (B.state blocks.old) node.old change.now
+        (B.state blocks.new).tells (B.beside blocks.old).faults (B.beside blocks.new).faults) }
     ensures same { OnErr result (node.new ≡ node.old) }
     ensures err { OnErr result (Takes [] (B.state blocks.old) (B.state blocks.new)) }
 
     ensures node { IsNode order (B.state blocks.new) node.new }
     ensures blocksize { (B.state blocks.new).holdings.size ≡ (B.state blocks.old).holdings.size }
-    ensures aside { B.Blocks.aside blocks.new ≡ B.Blocks.aside blocks.old }
+    ensures aside { (B.beside blocks.new).aside ≡ (B.beside blocks.old).aside }
 {
     let takes = checked_need(node, blocks, order, change)?;
     let p = prepare(alloc, node, blocks, order, change)?;
@@ -129,12 +134,14 @@ pub fn try_node<B: Blocks>(
     change: &Change,
 ) -> Result<u64, Refusal>
     requires node { IsNode order (B.state blocks.old) node.now }
-    ensures made { IfOk result (λ need. IsTrue (B.state blocks.new).tells → need ≡ fresh_count (alteration_of order (B.state blocks.old) node.now change.now)) }
-    ensures reason { IfErr result (HasReason order (B.state blocks.old) node.now change.now (B.state blocks.new).tells (B.faults blocks.old) (B.faults blocks.new)) }
+    ensures made { IfOk result (λ need. IsTrue (B.state blocks.new).tells
+        → need ≡ fresh_count (alteration_of order (B.state blocks.old) node.now change.now)) }
+    ensures reason { IfErr result (HasReason order (B.state blocks.old) node.now change.now
+        (B.state blocks.new).tells (B.beside blocks.old).faults (B.beside blocks.new).faults) }
 
     ensures back { Takes [] (B.state blocks.old) (B.state blocks.new) }
     ensures node { IsNode order (B.state blocks.new) node.now }
-    ensures aside { B.Blocks.aside blocks.new ≡ B.Blocks.aside blocks.old }
+    ensures aside { (B.beside blocks.new).aside ≡ (B.beside blocks.old).aside }
 {
     let takes = checked_need(node, blocks, order, change)?;
     let p = prepare(alloc, node, blocks, order, change)?;
@@ -164,7 +171,8 @@ fn is_permitted(change: &Change, blocksize: u64) -> bool
 
 // Whether the range of leaves that are written lies below the new size.
 fn range_fits(change: &Change, leaves: u64) -> bool
-    ensures { IsTrue result ↔ ((i : ℕ) → change.now.first ≤ i → i < change.now.first + change.now.count → i < leaves) }
+    ensures { IsTrue result ↔ ((i : ℕ) → change.now.first ≤ i → i < change.now.first + change.now.count
+        → i < leaves) }
 {
     change.count == 0 || change.first < leaves && change.count <= leaves - change.first
 }
@@ -182,7 +190,8 @@ fn also_fits(change: &Change, leaves: u64) -> bool
 
 // Whether the leaf that is taken out isn't written.
 fn gone_fits(change: &Change) -> bool
-    ensures { IsTrue result ↔ ((i : ℕ) → is_named change.now.gone i ≡ true → is_written change.now i ≡ false) }
+    ensures { IsTrue result ↔ ((i : ℕ) → is_named change.now.gone i ≡ true
+        → is_written change.now i ≡ false) }
 {
     match change.gone {
         Some(leaf) => !is_in_range(change, leaf) && change.also != Some(leaf),

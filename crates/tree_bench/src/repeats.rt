@@ -39,12 +39,13 @@ pub fn call_once<B: Blocks>(
     change: &Change,
 ) -> Result<u64, Refusal>
     requires { IsNode order (B.state blocks.old) node.old }
-    ensures need { IfOk result (λ need. IsTrue (B.state blocks.new).tells → need ≡ fresh_count (alteration_of order (B.state blocks.old) node.old change.now)) }
+    ensures need { IfOk result (λ need. IsTrue (B.state blocks.new).tells
+        → need ≡ fresh_count (alteration_of order (B.state blocks.old) node.old change.now)) }
     ensures committed { call ≡ Call.Commit → OnOk result (node.new.size ≡ change.now.size) }
     ensures kept { ¬ (call ≡ Call.Commit) → node.new ≡ node.old }
 
     ensures node { IsNode order (B.state blocks.new) node.new }
-    ensures aside { B.Blocks.aside blocks.new ≡ B.Blocks.aside blocks.old }
+    ensures aside { (B.beside blocks.new).aside ≡ (B.beside blocks.old).aside }
 {
     match call {
         Call::Need => checked_need(node, blocks, order, change),

@@ -13,14 +13,16 @@ use std::test::Fail;
 // A node of this size, of whose leaves the first two are there.
 fn two_leaves<B: Blocks>(blocks: &mut B, order: Order, size: u64) -> Result<Root, Stop>
     requires room { 1 < (B.state blocks.old).holdings.free }
-    requires size { (2 * (B.state blocks.old).holdings.size ≤ size) × (size ≤ 16 * (B.state blocks.old).holdings.size) }
+    requires size { (2 * (B.state blocks.old).holdings.size ≤ size)
+        × (size ≤ 16 * (B.state blocks.old).holdings.size) }
     ensures size { IfOk result (λ node. node.size ≡ size) }
     ensures blocksize { (B.state blocks.new).holdings.size ≡ (B.state blocks.old).holdings.size }
     ensures levels { IfOk result (λ node. HasLevels (B.state blocks.new).holdings.size node) }
     ensures works { IfOk result (λ node. IsWorking order (B.state blocks.new) node) }
     ensures consistent { IfOk result (λ _. IsConsistent (B.state blocks.new)) }
     ensures once { IfOk result (λ node. MeetsOnce order (B.state blocks.new) node) }
-    ensures can { IfOk result (λ node. (at count : ℕ) → at + count ≤ 2 * (B.state blocks.new).holdings.size → CanPut order (B.state blocks.new) node at count) }
+    ensures can { IfOk result (λ node. (at count : ℕ) → at + count ≤ 2 * (B.state blocks.new).holdings.size
+        → CanPut order (B.state blocks.new) node at count) }
 {
     let first = blocks.fresh()?;
     let second = blocks.fresh()?;
@@ -47,7 +49,8 @@ fn read_put<B: Blocks>(
     into: &mut [u8],
 ) -> Result<usize, Stop>
     requires room { 1 < (B.state blocks.old).holdings.free }
-    requires size { (2 * (B.state blocks.old).holdings.size ≤ size) × (size ≤ 16 * (B.state blocks.old).holdings.size) }
+    requires size { (2 * (B.state blocks.old).holdings.size ≤ size)
+        × (size ≤ 16 * (B.state blocks.old).holdings.size) }
     requires within { at + length bytes.now ≤ 2 * (B.state blocks.old).holdings.size }
 {
     let node = two_leaves(blocks, order, size)?;
@@ -67,7 +70,8 @@ fn read_fill<B: Blocks>(
     into: &mut [u8],
 ) -> Result<usize, Stop>
     requires room { 1 < (B.state blocks.old).holdings.free }
-    requires size { (2 * (B.state blocks.old).holdings.size ≤ size) × (size ≤ 16 * (B.state blocks.old).holdings.size) }
+    requires size { (2 * (B.state blocks.old).holdings.size ≤ size)
+        × (size ≤ 16 * (B.state blocks.old).holdings.size) }
     requires within { at + count ≤ 2 * (B.state blocks.old).holdings.size }
 {
     let node = two_leaves(blocks, order, size)?;

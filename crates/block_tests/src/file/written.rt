@@ -42,13 +42,17 @@ fn make<B: Blocks>(
     requires change { IsChange (B.state blocks.old).holdings.size change.now }
     requires works { IsTrue (B.state blocks.old).tells → IsWorking order (B.state blocks.old) node.old }
     requires regular { IsTrue (B.state blocks.old).tells → IsRegular order (B.state blocks.old) node.old }
-    ensures blocksize { OnOk result ((B.state blocks.new).holdings.size ≡ (B.state blocks.old).holdings.size) }
+    ensures blocksize { OnOk result
+        ((B.state blocks.new).holdings.size ≡ (B.state blocks.old).holdings.size) }
     ensures consistent { OnOk result (IsConsistent (B.state blocks.new)) }
     ensures size { OnOk result (node.new.size ≡ change.now.size) }
     ensures levels { OnOk result (HasLevels (B.state blocks.new).holdings.size node.new) }
-    ensures works { OnOk result (IsTrue (B.state blocks.new).tells → IsWorking order (B.state blocks.new) node.new) }
-    ensures regular { OnOk result (IsTrue (B.state blocks.new).tells → IsRegular order (B.state blocks.new) node.new) }
-    ensures written { OnOk result (IsReadyApart order (B.state blocks.new) node.new (IsWrittenBy change.now)) }
+    ensures works { OnOk result (IsTrue (B.state blocks.new).tells
+        → IsWorking order (B.state blocks.new) node.new) }
+    ensures regular { OnOk result (IsTrue (B.state blocks.new).tells
+        → IsRegular order (B.state blocks.new) node.new) }
+    ensures written { OnOk result
+        (IsReadyApart order (B.state blocks.new) node.new (IsWrittenBy change.now)) }
 {
     let takes = need(node, blocks, order, change)?;
     if blocks.free() < takes {
@@ -76,8 +80,10 @@ fn write<B: Blocks>(
     requires works { IsTrue (B.state blocks.old).tells → IsWorking order (B.state blocks.old) node.old }
     requires regular { IsTrue (B.state blocks.old).tells → IsRegular order (B.state blocks.old) node.old }
     ensures levels { OnOk result (HasLevels (B.state blocks.new).holdings.size node.new) }
-    ensures works { OnOk result (IsTrue (B.state blocks.new).tells → IsWorking order (B.state blocks.new) node.new) }
-    ensures regular { OnOk result (IsTrue (B.state blocks.new).tells → IsRegular order (B.state blocks.new) node.new) }
+    ensures works { OnOk result (IsTrue (B.state blocks.new).tells
+        → IsWorking order (B.state blocks.new) node.new) }
+    ensures regular { OnOk result (IsTrue (B.state blocks.new).tells
+        → IsRegular order (B.state blocks.new) node.new) }
 {
     let blocksize = blocks.size() as u32;
     let Ok(change) = plan_write(node, at, bytes.len() as u64, blocksize) else {
@@ -114,8 +120,10 @@ fn resize<B: Blocks>(
     requires works { IsTrue (B.state blocks.old).tells → IsWorking order (B.state blocks.old) node.old }
     requires regular { IsTrue (B.state blocks.old).tells → IsRegular order (B.state blocks.old) node.old }
     ensures levels { OnOk result (HasLevels (B.state blocks.new).holdings.size node.new) }
-    ensures works { OnOk result (IsTrue (B.state blocks.new).tells → IsWorking order (B.state blocks.new) node.new) }
-    ensures regular { OnOk result (IsTrue (B.state blocks.new).tells → IsRegular order (B.state blocks.new) node.new) }
+    ensures works { OnOk result (IsTrue (B.state blocks.new).tells
+        → IsWorking order (B.state blocks.new) node.new) }
+    ensures regular { OnOk result (IsTrue (B.state blocks.new).tells
+        → IsRegular order (B.state blocks.new) node.new) }
 {
     let block = blocks.size() as u64;
     let present = is_present(node, blocks, order, size)?;

@@ -26,9 +26,11 @@ fn need_of_empty<B: Blocks>(
     also: Option<u64>,
 ) -> Result<u64, Stop>
     requires blocksize { IsBlockSize (B.state blocks.old).holdings.size }
-    requires reached { size ≤ reach (B.state blocks.old).holdings.size 5 * (B.state blocks.old).holdings.size }
+    requires reached { size
+        ≤ reach (B.state blocks.old).holdings.size 5 * (B.state blocks.old).holdings.size }
     requires range { first + count ≤ ceil_div size (B.state blocks.old).holdings.size }
-    requires also { IfSome also (λ i. (first + count ≤ i) × (i < ceil_div size (B.state blocks.old).holdings.size)) }
+    requires also { IfSome also (λ i. (first + count ≤ i)
+        × (i < ceil_div size (B.state blocks.old).holdings.size)) }
 {
     let change = Change {
         size,

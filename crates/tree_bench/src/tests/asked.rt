@@ -70,7 +70,7 @@ pub fn make<B: Blocks>(
 ) -> Result<(), Refusal>
     requires { IsNode order (B.state blocks.old) node.old }
     ensures node { IsNode order (B.state blocks.new) node.new }
-    ensures aside { B.Blocks.aside blocks.new ≡ B.Blocks.aside blocks.old }
+    ensures aside { (B.beside blocks.new).aside ≡ (B.beside blocks.old).aside }
 {
     for step in steps {
         take_step(alloc, node, blocks, order, step)?;
@@ -88,7 +88,7 @@ fn take_step<B: Blocks>(
 ) -> Result<(), Refusal>
     requires { IsNode order (B.state blocks.old) node.old }
     ensures node { IsNode order (B.state blocks.new) node.new }
-    ensures aside { B.Blocks.aside blocks.new ≡ B.Blocks.aside blocks.old }
+    ensures aside { (B.beside blocks.new).aside ≡ (B.beside blocks.old).aside }
 {
     match step {
         Step::Make(change) => {
@@ -110,7 +110,7 @@ fn write<B: Blocks>(
 ) -> Result<(), Refusal>
     requires { IsNode order (B.state blocks.old) node.old }
     ensures node { IsNode order (B.state blocks.new) node.new }
-    ensures aside { B.Blocks.aside blocks.new ≡ B.Blocks.aside blocks.old }
+    ensures aside { (B.beside blocks.new).aside ≡ (B.beside blocks.old).aside }
 {
     if bytes.is_empty() {
         return Ok(());

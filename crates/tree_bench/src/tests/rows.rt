@@ -81,7 +81,7 @@ pub fn first_wrong<B: Blocks>(
 ) -> Option<Wrong>
     requires { IsNode order (B.state blocks.old) node.old }
     ensures node { IsNode order (B.state blocks.new) node.new }
-    ensures aside { B.Blocks.aside blocks.new ≡ B.Blocks.aside blocks.old }
+    ensures aside { (B.beside blocks.new).aside ≡ (B.beside blocks.old).aside }
 {
     for (place, row) in rows.iter().enumerate() {
         let answer = change_node(alloc, node, blocks, order, &row.change);

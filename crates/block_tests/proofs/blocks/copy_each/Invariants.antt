@@ -8,6 +8,6 @@ invariant-loop-i g l = record {
   there : (k : ℕ) → k < l.i → IsTrue ((g.B.Blocks.state l.blocks).holdings.held (slice_index l.into k));
   copies : IsTrue (g.B.Blocks.state l.blocks).tells → (k : ℕ) → k < l.i
       → (g.B.Blocks.state l.blocks).bytes (slice_index l.into k) ≡ (g.B.Blocks.state l.fn.blocks).bytes (slice_index l.from k);
-  aside : g.B.Blocks.aside l.blocks ≡ g.B.Blocks.aside l.fn.blocks;
-  faults : g.B.Blocks.faults l.blocks ≡ g.B.Blocks.faults l.fn.blocks;
+  aside : (g.B.Blocks.beside l.blocks).aside ≡ (g.B.Blocks.beside l.fn.blocks).aside;
+  faults : (g.B.Blocks.beside l.blocks).faults ≡ (g.B.Blocks.beside l.fn.blocks).faults;
 }

@@ -20,8 +20,7 @@ loop-index-preserved g c =
     record {
       puts = puts_next c.args.order c.args.node.now c.args.at c.args.bytes.now m (g.B.Blocks.state c.loop-index.blocks) (g.B.Blocks.state c.put_leaf.new.blocks) c.loop-index.index
           c.requires c.loop-index.invariant.puts has c.put_leaf.ensures.put;
-      aside = c.put_leaf.ensures.aside ∙ c.loop-index.invariant.aside;
-      faults = c.put_leaf.ensures.faults ∙ c.loop-index.invariant.faults;
+      beside = c.put_leaf.ensures.others ∙ c.loop-index.invariant.beside;
     }
 
 pub returns-clause-puts : goal.returns-clause-puts

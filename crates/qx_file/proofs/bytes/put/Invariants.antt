@@ -6,6 +6,5 @@ use Rattle.qx_file.proofs.bytes.put.Given as goal
 abbrev pub invariant-loop-index : goal.invariant-loop-index
 invariant-loop-index g l = record {
   puts : PutsBefore l.order l.node l.at l.bytes (g.B.Blocks.state l.initial.blocks) (g.B.Blocks.state l.blocks) l.index;
-  aside : g.B.Blocks.aside l.blocks ≡ g.B.Blocks.aside l.initial.blocks;
-  faults : g.B.Blocks.faults l.blocks ≡ g.B.Blocks.faults l.initial.blocks;
+  beside : g.B.Blocks.beside l.blocks ≡ g.B.Blocks.beside l.initial.blocks;
 }

@@ -27,8 +27,7 @@ loop-index-preserved g c =
     record {
       puts = puts_next c.args.order c.args.node.now c.args.at (replicate c.args.count c.args.byte) m (g.B.Blocks.state c.loop-index.blocks) (g.B.Blocks.state c.fill_leaf.new.blocks) c.loop-index.index
           can c.loop-index.invariant.puts (rw length-replicate has) c.fill_leaf.ensures.put;
-      aside = c.fill_leaf.ensures.aside ∙ c.loop-index.invariant.aside;
-      faults = c.fill_leaf.ensures.faults ∙ c.loop-index.invariant.faults;
+      beside = c.fill_leaf.ensures.others ∙ c.loop-index.invariant.beside;
     }
 
 pub returns-clause-puts : goal.returns-clause-puts

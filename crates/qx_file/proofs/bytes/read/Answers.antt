@@ -19,9 +19,9 @@ loop-index-preserved g c =
     let room : p.from + p.count ≤ length into = omega (arith, c.piece_in-piece.ensures.within, c.min-count.ensures, c.loop-index.invariant.long) in
     let long : length part ≡ p.count = c.read_leaf.ensures.long ∙ taken_length into p.from p.count room in
     record {
-      keeps = kept_again m mid new c.loop-index.invariant.keeps c.read_leaf.ensures.keeps;
+      keeps = kept_again m mid new c.loop-index.invariant.keeps c.read_leaf.ensures.reads.keeps;
       bytes = λ told k low ends.
-          let told_mid : IsTrue mid.tells = told_before mid new c.read_leaf.ensures.keeps told in
+          let told_mid : IsTrue mid.tells = told_before mid new c.read_leaf.ensures.reads.keeps told in
           let is : part ≡ slice_range (leaf_bytes (block_map c.args.order mid) c.args.node.now c.loop-index.index) p.place (p.place + p.count) =
           c.in_ok-read_leaf.ensures.bytes told ∙ ap (λ n. slice_range (leaf_bytes (block_map c.args.order mid) c.args.node.now c.loop-index.index) p.place (p.place + n)) (taken_length into p.from p.count room) in
           let same : mid ≡ m = c.loop-index.invariant.keeps.told told_mid in
@@ -31,6 +31,6 @@ loop-index-preserved g c =
           (rw c.size-size.ensures.size at (c.loop-index.invariant.bytes told_mid)) k low (rw c.size-size.ensures.size at ends);
       rest = rest_stays into part p.from p.count c.min-count.result long c.piece_in-piece.ensures.within room ∙ c.loop-index.invariant.rest;
       long = put_length into part p.from p.count long room ∙ c.loop-index.invariant.long;
-      aside = c.read_leaf.ensures.aside ∙ c.loop-index.invariant.aside;
-      faults = search (rules, c.read_leaf.ensures.cause.kept, c.loop-index.invariant.faults);
+      aside = c.read_leaf.ensures.reads.others.aside ∙ c.loop-index.invariant.aside;
+      faults = search (rules, c.read_leaf.ensures.reads.others.cause.kept, c.loop-index.invariant.faults);
     }

@@ -13,6 +13,6 @@ invariant-loop-index g l = record {
       → slice_index l.into k ≡ byte_of (block_map l.order (g.B.Blocks.state l.initial.blocks)) l.node (l.at + k);
   rest : drop l.count l.into ≡ drop l.count l.initial.into;
   long : length l.into ≡ length l.initial.into;
-  aside : g.B.Blocks.aside l.blocks ≡ g.B.Blocks.aside l.initial.blocks;
-  faults : g.B.Blocks.faults l.blocks ≡ g.B.Blocks.faults l.initial.blocks;
+  aside : (g.B.Blocks.beside l.blocks).aside ≡ (g.B.Blocks.beside l.initial.blocks).aside;
+  faults : (g.B.Blocks.beside l.blocks).faults ≡ (g.B.Blocks.beside l.initial.blocks).faults;
 }

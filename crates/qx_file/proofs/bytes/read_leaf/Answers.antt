@@ -10,7 +10,7 @@ pub read-requires : goal.read-requires
 read-requires g c =
     let old : BlockState = g.B.Blocks.state c.args.blocks.now in
     let works : IsTrue (old.holdings.works c.in-Some.b) = rw c.in-Some.is at c.in_ok-b.ensures.held in
-    subst (λ (h : Holdings). IsTrue (h.held c.in-Some.b)) (sym c.in_ok-b.ensures.keeps.holdings) (c.requires.consistent.works_held c.in-Some.b works)
+    subst (λ (h : Holdings). IsTrue (h.held c.in-Some.b)) (sym c.in_ok-b.ensures.reads.keeps.holdings) (c.requires.consistent.works_held c.in-Some.b works)
 
 pub returns-in-None-clause-bytes : goal.returns-in-None-clause-bytes
 returns-in-None-clause-bytes g c = λ told.

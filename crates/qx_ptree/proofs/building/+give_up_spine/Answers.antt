@@ -45,7 +45,7 @@ give_up_each-requires-clause-reach g t c =
     let bounds : (128 ≤ per_block m.holdings.size) × (per_block m.holdings.size ≤ 1024) = words_bounds m.holdings.size c.size-words.ensures.consistent.size in
     let long : length c.pointers_below.new.into ≡ c.size-words.result / 4 = search rules in
     of_later (λ xs. 0 < length xs → InReach n.holdings.size c.args.level (16 + length xs - 1)) 16 (c.size-words.result / 4) c.pointers_below.new.into _ long (omega arith)
-    (λ some. kept_reach m n c.args.level _ c.pointers_below.ensures.keeps
+    (λ some. kept_reach m n c.args.level _ c.pointers_below.ensures.reads.keeps
     (subst (λ l. InReach m.holdings.size l (16 + length (drop 16 c.pointers_below.new.into) - 1)) c.if-above-level.true
     (word_reach m.holdings.size c.args.above (c.size-words.result / 4) _ c.size-words.ensures.consistent.size (omega (arith, c.requires.above.0)) (omega (arith, c.requires.above.1, c.requires.plan.levels.most)) words (omega (arith, some, long, length-drop 16 c.pointers_below.new.into)))))
 
@@ -57,7 +57,7 @@ give_up_each-requires-clause-pointers g t c told =
     let bounds : (128 ≤ per_block m.holdings.size) × (per_block m.holdings.size ≤ 1024) = words_bounds m.holdings.size c.size-words.ensures.consistent.size in
     let long : length c.pointers_below.new.into ≡ c.size-words.result / 4 = search rules in
     of_later (λ xs. (w : ℕ) → w < length xs → slice_index xs w ≡ planned_pointer c.args.plan.now n c.args.level (16 + w)) 16 (c.size-words.result / 4) c.pointers_below.new.into _ long (omega arith)
-    (words_from m n c.args.level (c.size-words.result / 4) 16 c.args.plan.now c.pointers_below.new.into c.pointers_below.ensures.keeps words long
+    (words_from m n c.args.level (c.size-words.result / 4) 16 c.args.plan.now c.pointers_below.new.into c.pointers_below.ensures.reads.keeps words long
     (λ w low. subst (λ l. slice_index c.pointers_below.new.into w ≡ planned_pointer c.args.plan.now m l (0 * per_block m.holdings.size + w)) c.if-above-level.true (c.in_ok-pointers_below.ensures.pointers told w (search rules))) told)
 
 pub returns-then-above-level-clause-gone : goal.returns-then-above-level-clause-gone
@@ -70,7 +70,7 @@ returns-then-above-level-clause-gone g t c =
     let count : length (drop 16 c.pointers_below.new.into) ≡ c.size-words.result / 4 - 16 = omega (arith, long, length-drop 16 c.pointers_below.new.into) in
     let Q : ℕ → Type 0 = λ k. GivesUp n (g.B.Blocks.state c.give_up_each.new.blocks) c.give_up.new.self c.give_up_each.new.work c.args.plan.now (LiesUnder (per_block n.holdings.size) (record { level = c.args.level; first = 16; count = k })) c.give_up_each.result in
     spine_gives_last m n (g.B.Blocks.state c.give_up_each.new.blocks) c.args.plan.now c.args.level c.args.above c.args.pointer c.leading-pointer.result (c.size-words.result / 4) c.args.work.now c.give_up.new.self c.give_up_each.new.work c.give_up_each.result
-    c.leading-pointer.ensures.consistent c.requires.long c.requires.plan c.requires.pointer c.leading-pointer.ensures.same c.if-pointer.false c.requires.above.0 c.if-above-level.true words c.pointers_below.ensures.keeps c.give_up_each.ensures.keeps c.in_ok-give_up.ensures.noted
+    c.leading-pointer.ensures.consistent c.requires.long c.requires.plan c.requires.pointer c.leading-pointer.ensures.same c.if-pointer.false c.requires.above.0 c.if-above-level.true words c.pointers_below.ensures.reads.keeps c.give_up_each.ensures.reads.keeps c.in_ok-give_up.ensures.noted
     (subst Q count (later_of (λ xs. Q (length xs)) 16 (c.size-words.result / 4) c.pointers_below.new.into _ long (omega arith) c.give_up_each.ensures.gone))
 
 pub give_up_each-requires-2-clause-reach : goal.give_up_each-requires-2-clause-reach
@@ -81,7 +81,7 @@ give_up_each-requires-2-clause-reach g t c =
     let bounds : (128 ≤ per_block m.holdings.size) × (per_block m.holdings.size ≤ 1024) = words_bounds m.holdings.size c.size-words.ensures.consistent.size in
     let long : length c.pointers_below.new.into ≡ c.size-words.result / 4 = search rules in
     of_later (λ xs. 0 < length xs → InReach n.holdings.size (c.args.above - 1) (1 + length xs - 1)) 1 (c.size-words.result / 4) c.pointers_below.new.into _ long (omega arith)
-    (λ some. kept_reach m n (c.args.above - 1) _ c.pointers_below.ensures.keeps
+    (λ some. kept_reach m n (c.args.above - 1) _ c.pointers_below.ensures.reads.keeps
     (word_reach m.holdings.size c.args.above (c.size-words.result / 4) _ c.size-words.ensures.consistent.size (omega (arith, c.requires.above.0)) (omega (arith, c.requires.above.1, c.requires.plan.levels.most)) words (omega (arith, some, long, length-drop 1 c.pointers_below.new.into))))
 
 pub give_up_each-requires-2-clause-pointers : goal.give_up_each-requires-2-clause-pointers
@@ -92,7 +92,7 @@ give_up_each-requires-2-clause-pointers g t c told =
     let bounds : (128 ≤ per_block m.holdings.size) × (per_block m.holdings.size ≤ 1024) = words_bounds m.holdings.size c.size-words.ensures.consistent.size in
     let long : length c.pointers_below.new.into ≡ c.size-words.result / 4 = search rules in
     of_later (λ xs. (w : ℕ) → w < length xs → slice_index xs w ≡ planned_pointer c.args.plan.now n (c.args.above - 1) (1 + w)) 1 (c.size-words.result / 4) c.pointers_below.new.into _ long (omega arith)
-    (words_from m n (c.args.above - 1) (c.size-words.result / 4) 1 c.args.plan.now c.pointers_below.new.into c.pointers_below.ensures.keeps words long (λ w low. c.in_ok-pointers_below.ensures.pointers told w (search rules)) told)
+    (words_from m n (c.args.above - 1) (c.size-words.result / 4) 1 c.args.plan.now c.pointers_below.new.into c.pointers_below.ensures.reads.keeps words long (λ w low. c.in_ok-pointers_below.ensures.pointers told w (search rules)) told)
 
 pub give_up_spine-requires : goal.give_up_spine-requires
 give_up_spine-requires g t c κs within =
@@ -111,11 +111,11 @@ give_up_spine-requires g t c κs within =
           (
             c.requires.long,
             (
-              kept_plan n o c.args.plan.now c.give_up_each-2.ensures.keeps (kept_plan m n c.args.plan.now c.pointers_below.ensures.keeps c.requires.plan),
+              kept_plan n o c.args.plan.now c.give_up_each-2.ensures.reads.keeps (kept_plan m n c.args.plan.now c.pointers_below.ensures.reads.keeps c.requires.plan),
               λ told.
-                  let told_n : IsTrue n.tells = told_before n o c.give_up_each-2.ensures.keeps told in
+                  let told_n : IsTrue n.tells = told_before n o c.give_up_each-2.ensures.reads.keeps told in
                   get_or_append_left c.pointers_below.new.into _ 0 0 (omega (arith, long)) ∙ c.in_ok-pointers_below.ensures.pointers told_n 0 (search rules) ∙ ap (planned_pointer c.args.plan.now m (c.args.above - 1)) at
-                  ∙ sym (kept_pointer m n c.args.plan.now (c.args.above - 1) 0 c.pointers_below.ensures.keeps told_n) ∙ sym (kept_pointer n o c.args.plan.now (c.args.above - 1) 0 c.give_up_each-2.ensures.keeps told),
+                  ∙ sym (kept_pointer m n c.args.plan.now (c.args.above - 1) 0 c.pointers_below.ensures.reads.keeps told_n) ∙ sym (kept_pointer n o c.args.plan.now (c.args.above - 1) 0 c.give_up_each-2.ensures.reads.keeps told),
             ),
           ),
         ),
@@ -132,5 +132,5 @@ returns-clause-gone g t c =
     let count : length (drop 1 c.pointers_below.new.into) ≡ c.size-words.result / 4 - 1 = omega (arith, long, length-drop 1 c.pointers_below.new.into) in
     let Q : ℕ → Type 0 = λ k. GivesUp n (g.B.Blocks.state c.give_up_each-2.new.blocks) c.give_up.new.self c.give_up_each-2.new.work c.args.plan.now (LiesUnder (per_block n.holdings.size) (record { level = c.args.above - 1; first = 1; count = k })) (Ok tt) in
     spine_gives_more m n (g.B.Blocks.state c.give_up_each-2.new.blocks) (g.B.Blocks.state c.give_up_spine.new.blocks) c.args.plan.now c.args.level c.args.above c.args.pointer c.leading-pointer.result (c.size-words.result / 4) c.args.work.now c.give_up.new.self c.give_up_each-2.new.work c.give_up_spine.new.work c.give_up_spine.result
-    c.leading-pointer.ensures.consistent c.requires.long c.requires.plan c.requires.pointer c.leading-pointer.ensures.same c.if-pointer.false c.requires.above.0 c.if-above-level.false words c.pointers_below.ensures.keeps c.give_up_each-2.ensures.keeps c.give_up_spine.ensures.keeps c.in_ok-give_up.ensures.noted
+    c.leading-pointer.ensures.consistent c.requires.long c.requires.plan c.requires.pointer c.leading-pointer.ensures.same c.if-pointer.false c.requires.above.0 c.if-above-level.false words c.pointers_below.ensures.reads.keeps c.give_up_each-2.ensures.reads.keeps c.give_up_spine.ensures.reads.keeps c.in_ok-give_up.ensures.noted
     (subst Q count (later_of (λ xs. Q (length xs)) 1 (c.size-words.result / 4) c.pointers_below.new.into _ long (omega arith) c.in_ok-give_up_each.ensures.gone)) c.give_up_spine.ensures.gone

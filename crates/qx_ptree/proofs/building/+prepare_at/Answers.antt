@@ -56,14 +56,14 @@ give_up_below-requires-clause-pointer g t c told =
 
 pub returns-in_err-give_up_below-in-Some-Goes-clause-err : goal.returns-in_err-give_up_below-in-Some-Goes-clause-err
 returns-in_err-give_up_below-in-Some-Goes-clause-err g t c =
-    at_err c.from_residual.result (adds_given (g.B.Blocks.state c.args.blocks.now) (g.B.Blocks.state c.give_up_below.new.blocks) c.args.work.now c.give_up_below.new.work c.give_up_below.ensures.gone.blocks c.give_up_below.ensures.keeps c.give_up_below.ensures.gone.is)
+    at_err c.from_residual.result (adds_given (g.B.Blocks.state c.args.blocks.now) (g.B.Blocks.state c.give_up_below.new.blocks) c.args.work.now c.give_up_below.new.work c.give_up_below.ensures.gone.blocks c.give_up_below.ensures.reads.keeps c.give_up_below.ensures.gone.is)
 
 pub returns-in-Some-Goes-clause-built : goal.returns-in-Some-Goes-clause-built
 returns-in-Some-Goes-clause-built g t c =
     let m : BlockState = g.B.Blocks.state c.args.blocks.now in
     let all : AllFare m.holdings.size c.args.plan.now.change Goes c.args.level c.args.index = λ i from to. c.in-Some-Goes.ensures.fate i from to ∙ c.in-Some-Goes.field-0-is in
     gone_onto m (g.B.Blocks.state c.give_up_below.new.blocks) c.args.plan.now c.args.level c.args.index c.args.work.now c.give_up_below.new.work c.leading-pointer.ensures.consistent c.requires.long c.requires.plan c.requires.level c.in-Some-Goes.ensures.level all
-    c.give_up_below.ensures.keeps c.in_ok-give_up_below-in-Some-Goes.ensures.gone
+    c.give_up_below.ensures.reads.keeps c.in_ok-give_up_below-in-Some-Goes.ensures.gone
 
 pub returns-in-Some-Goes-clause-changed : goal.returns-in-Some-Goes-clause-changed
 returns-in-Some-Goes-clause-changed g t c told =
@@ -71,7 +71,7 @@ returns-in-Some-Goes-clause-changed g t c told =
     let all : AllFare m.holdings.size c.args.plan.now.change Goes c.args.level c.args.index = λ i from to. c.in-Some-Goes.ensures.fate i from to ∙ c.in-Some-Goes.field-0-is in
     sym (ap (λ (x : Part). x.changed) (fare_part m c.args.plan.now Goes c.args.level c.args.index c.leading-pointer.result c.leading-pointer.ensures.consistent c.requires.long c.requires.plan (λ e. absurd (cc)) c.requires.level c.in-Some-Goes.ensures.level
     (λ told. planned_lead m c.args.plan.now c.args.level c.args.index c.args.pointer c.leading-pointer.result (record { consistent = c.leading-pointer.ensures.consistent; long = c.requires.long; met = c.requires.plan; told = told }) (c.requires.pointer told) c.leading-pointer.ensures.same) all
-    (told_before m (g.B.Blocks.state c.give_up_below.new.blocks) c.give_up_below.ensures.keeps told)))
+    (told_before m (g.B.Blocks.state c.give_up_below.new.blocks) c.give_up_below.ensures.reads.keeps told)))
 
 pub returns-in-Some-Goes-clause-present : goal.returns-in-Some-Goes-clause-present
 returns-in-Some-Goes-clause-present g t c told =
@@ -79,7 +79,7 @@ returns-in-Some-Goes-clause-present g t c told =
     let all : AllFare m.holdings.size c.args.plan.now.change Goes c.args.level c.args.index = λ i from to. c.in-Some-Goes.ensures.fate i from to ∙ c.in-Some-Goes.field-0-is in
     sym (ap (λ (x : Part). x.present) (fare_part m c.args.plan.now Goes c.args.level c.args.index c.leading-pointer.result c.leading-pointer.ensures.consistent c.requires.long c.requires.plan (λ e. absurd (cc)) c.requires.level c.in-Some-Goes.ensures.level
     (λ told. planned_lead m c.args.plan.now c.args.level c.args.index c.args.pointer c.leading-pointer.result (record { consistent = c.leading-pointer.ensures.consistent; long = c.requires.long; met = c.requires.plan; told = told }) (c.requires.pointer told) c.leading-pointer.ensures.same) all
-    (told_before m (g.B.Blocks.state c.give_up_below.new.blocks) c.give_up_below.ensures.keeps told)))
+    (told_before m (g.B.Blocks.state c.give_up_below.new.blocks) c.give_up_below.ensures.reads.keeps told)))
 
 -- no written leaf stands there that would have to be reached
 
@@ -101,7 +101,7 @@ pub returns-in-Some-Goes-clause-reaches : goal.returns-in-Some-Goes-clause-reach
 returns-in-Some-Goes-clause-reaches g t c =
     let m : BlockState = g.B.Blocks.state c.args.blocks.now in
     onto_given_up m (g.B.Blocks.state c.give_up_below.new.blocks) (g.B.Blocks.state c.give_up_below.new.blocks) c.args.work.now c.give_up_below.new.work c.args.plan.now (LiesUnder (per_block m.holdings.size) (one_block c.args.level c.args.index)) _ (one_block c.args.level c.args.index) _
-    (Takes-none m (g.B.Blocks.state c.give_up_below.new.blocks) c.in_ok-give_up_below-in-Some-Goes.ensures.keeps) c.in_ok-give_up_below-in-Some-Goes.ensures.gone
+    (Takes-none m (g.B.Blocks.state c.give_up_below.new.blocks) c.in_ok-give_up_below-in-Some-Goes.ensures.reads.keeps) c.in_ok-give_up_below-in-Some-Goes.ensures.gone
     (unwritten_block m c.args.plan.now c.args.level c.args.index (leaves_after m.holdings.size c.args.plan.now.change) Goes (words_positive m.holdings.size c.leading-pointer.ensures.consistent.size)
     (λ i low high. c.in-Some-Goes.ensures.fate i low high ∙ c.in-Some-Goes.field-0-is) (λ e. cc))
 
@@ -126,7 +126,7 @@ pointers_below-requires-clause-pointer g t c told =
 
 pub returns-in_err-pointers_below-clause-err : goal.returns-in_err-pointers_below-clause-err
 returns-in_err-pointers_below-clause-err g t c =
-    at_err c.from_residual-in_err-pointers_below.result (adds_none (g.B.Blocks.state c.args.blocks.now) (g.B.Blocks.state c.pointers_below.new.blocks) c.args.work.now c.args.work.now (Takes-none (g.B.Blocks.state c.args.blocks.now) (g.B.Blocks.state c.pointers_below.new.blocks) c.pointers_below.ensures.keeps) refl)
+    at_err c.from_residual-in_err-pointers_below.result (adds_none (g.B.Blocks.state c.args.blocks.now) (g.B.Blocks.state c.pointers_below.new.blocks) c.args.work.now c.args.work.now (Takes-none (g.B.Blocks.state c.args.blocks.now) (g.B.Blocks.state c.pointers_below.new.blocks) c.pointers_below.ensures.reads.keeps) refl)
 
 -- ---- the words
 
@@ -135,9 +135,9 @@ loop-w-init g t c = record {
   told = λ told. told;
   long = search rules;
   reaches = onto_empty (g.B.Blocks.state c.args.blocks.now) (g.B.Blocks.state c.pointers_below.new.blocks) c.args.work.now c.args.work.now c.args.plan.now (c.args.level - 1) (c.args.index * per_block (g.B.Blocks.state c.args.blocks.now).holdings.size) _
-      (Takes-none (g.B.Blocks.state c.args.blocks.now) (g.B.Blocks.state c.pointers_below.new.blocks) c.pointers_below.ensures.keeps) refl;
+      (Takes-none (g.B.Blocks.state c.args.blocks.now) (g.B.Blocks.state c.pointers_below.new.blocks) c.pointers_below.ensures.reads.keeps) refl;
   marked = marked_empty (g.B.Blocks.state c.args.blocks.now) c.args.plan.now (c.args.level - 1) (c.args.index * per_block (g.B.Blocks.state c.args.blocks.now).holdings.size) false false;
-  built = row_onto_none (g.B.Blocks.state c.args.blocks.now) (g.B.Blocks.state c.pointers_below.new.blocks) c.args.plan.now _ _ c.args.work.now refl c.pointers_below.ensures.keeps;
+  built = row_onto_none (g.B.Blocks.state c.args.blocks.now) (g.B.Blocks.state c.pointers_below.new.blocks) c.args.plan.now _ _ c.args.work.now refl c.pointers_below.ensures.reads.keeps;
   changed = λ told. any_none _;
   present = λ told. any_none _;
   aside = search rules;
@@ -302,3 +302,13 @@ returns-clause-marked g t c =
     let end : c.loop-w.w ≡ c.size-words.result / 4 = search rules in
     marked_block m c.args.plan.now c.args.level c.args.index c.loop-w.changed c.loop-w.present (omega (arith, c.if-level-eq0.false)) (words_positive m.holdings.size c.leading-pointer.ensures.consistent.size)
     (subst (λ k. IsMarked m c.args.plan.now (record { level = c.args.level - 1; first = c.args.index * per_block m.holdings.size; count = k }) c.loop-w.changed c.loop-w.present) (end ∙ words) c.loop-w.invariant.marked)
+
+pub returns-in_err-below-clause-others : goal.returns-in_err-below-clause-others
+returns-in_err-below-clause-others g t c = record {
+  aside = c.prepare_at.ensures.others.aside ∙ c.loop-w.invariant.aside;
+  cause = record {
+    later = search (rules, c.prepare_at.ensures.others.cause.later, c.loop-w.invariant.faults);
+    failed = λ e. search (rules, c.prepare_at.ensures.others.cause.failed, c.loop-w.invariant.faults);
+    kept = λ e. search (rules, c.prepare_at.ensures.others.cause.kept, c.loop-w.invariant.faults);
+  };
+}

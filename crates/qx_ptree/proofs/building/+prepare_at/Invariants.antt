@@ -27,6 +27,6 @@ invariant-loop-w g l = record {
       → l.changed ≡ any_up_to l.w (λ v. (part_of (alteration_in l.fn.plan (g.B.Blocks.state l.fn.blocks)) (l.fn.level - 1) (l.fn.index * per_block (g.B.Blocks.state l.fn.blocks).holdings.size + v)).changed);
   present : IsTrue (g.B.Blocks.state l.blocks).tells
       → l.present ≡ any_up_to l.w (λ v. (part_of (alteration_in l.fn.plan (g.B.Blocks.state l.fn.blocks)) (l.fn.level - 1) (l.fn.index * per_block (g.B.Blocks.state l.fn.blocks).holdings.size + v)).present);
-  aside : g.B.Blocks.aside l.blocks ≡ g.B.Blocks.aside l.fn.blocks;
-  faults : g.B.Blocks.faults l.blocks ≡ g.B.Blocks.faults l.fn.blocks;
+  aside : (g.B.Blocks.beside l.blocks).aside ≡ (g.B.Blocks.beside l.fn.blocks).aside;
+  faults : (g.B.Blocks.beside l.blocks).faults ≡ (g.B.Blocks.beside l.fn.blocks).faults;
 }

@@ -46,7 +46,7 @@ pub give_up_below-give_up_each-requires : goal.give_up_below-give_up_each-requir
 give_up_below-give_up_each-requires g t c κs within =
     let m : BlockState = g.B.Blocks.state c.args.blocks.now in
     let n : BlockState = g.B.Blocks.state c.pointers_below.new.blocks in
-    let keeps : Keeps m n = c.pointers_below.ensures.keeps in
+    let keeps : Keeps m n = c.pointers_below.ensures.reads.keeps in
     let words : c.size-words.result / 4 ≡ per_block m.holdings.size = ap (λ n. n / 4) c.size-words.ensures.size in
     let bounds : (128 ≤ per_block m.holdings.size) × (per_block m.holdings.size ≤ 1024) = words_bounds m.holdings.size c.size-words.ensures.consistent.size in
     let long : length c.pointers_below.new.into ≡ c.size-words.result / 4 = search rules in
@@ -84,7 +84,7 @@ give_up_below-returns-clause-gone g t c =
     let long : length c.pointers_below.new.into ≡ c.size-words.result / 4 = search rules in
     gives_block (g.B.Blocks.state c.args.blocks.now) (g.B.Blocks.state c.pointers_below.new.blocks) (g.B.Blocks.state c.give_up_each.new.blocks) c.args.plan.now c.args.level c.args.index c.args.pointer c.leading-pointer.result (c.size-words.result / 4)
     c.args.work.now c.give_up.new.self c.give_up_each.new.work c.give_up_each.result c.leading-pointer.ensures.consistent c.requires.long c.requires.plan c.requires.pointer c.leading-pointer.ensures.same c.if-pointer.false
-    c.if-level-eq0.false (ap (λ n. n / 4) c.size-words.ensures.size) c.pointers_below.ensures.keeps c.give_up_each.ensures.keeps c.in_ok-give_up.ensures.noted
+    c.if-level-eq0.false (ap (λ n. n / 4) c.size-words.ensures.size) c.pointers_below.ensures.reads.keeps c.give_up_each.ensures.reads.keeps c.in_ok-give_up.ensures.noted
     (subst (λ k. GivesUp (g.B.Blocks.state c.pointers_below.new.blocks) (g.B.Blocks.state c.give_up_each.new.blocks) c.give_up.new.self c.give_up_each.new.work c.args.plan.now
     (LiesUnder (per_block (g.B.Blocks.state c.pointers_below.new.blocks).holdings.size) (record { level = c.args.level - 1; first = c.args.index * (c.size-words.result / 4); count = k })) c.give_up_each.result) long
     (part_of_read (λ xs. GivesUp (g.B.Blocks.state c.pointers_below.new.blocks) (g.B.Blocks.state c.give_up_each.new.blocks) c.give_up.new.self c.give_up_each.new.work c.args.plan.now
@@ -137,7 +137,7 @@ give_up_each-loop-w-preserved g t c =
     record {
       gone = gives_then m n (g.B.Blocks.state c.give_up_below.new.blocks) c.args.work.now c.loop-w.work c.give_up_below.new.work c.args.plan.now
           (λ P. LiesUnder P (record { level = c.args.level; first = c.args.first; count = c.loop-w.w })) (λ P. LiesUnder P (one_block c.args.level (c.args.first + c.loop-w.w)))
-          (λ P. LiesUnder P (record { level = c.args.level; first = c.args.first; count = c.loop-w.w + 1 })) (Ok tt) c.loop-w.invariant.keeps c.give_up_below.ensures.keeps c.loop-w.invariant.gone c.in_ok-give_up_below.ensures.gone
+          (λ P. LiesUnder P (record { level = c.args.level; first = c.args.first; count = c.loop-w.w + 1 })) (Ok tt) c.loop-w.invariant.keeps c.give_up_below.ensures.reads.keeps c.loop-w.invariant.gone c.in_ok-give_up_below.ensures.gone
           (λ told xs ys a b. blocks_more m c.args.plan.now (per_block m.holdings.size) c.args.level c.args.first c.loop-w.w xs ys a b);
       keeps = search rules;
       aside = search rules;

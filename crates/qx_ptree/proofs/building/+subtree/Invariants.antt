@@ -17,6 +17,6 @@ invariant-give_up_each-loop-w g l = record {
   gone : GivesUp (g.B.Blocks.state l.fn.blocks) (g.B.Blocks.state l.blocks) l.fn.work l.work l.fn.plan
       (LiesUnder (per_block (g.B.Blocks.state l.fn.blocks).holdings.size) (record { level = l.level; first = l.first; count = l.w })) (Ok tt);
   keeps : Keeps (g.B.Blocks.state l.fn.blocks) (g.B.Blocks.state l.blocks);
-  aside : g.B.Blocks.aside l.blocks ≡ g.B.Blocks.aside l.fn.blocks;
-  faults : g.B.Blocks.faults l.blocks ≡ g.B.Blocks.faults l.fn.blocks;
+  aside : (g.B.Blocks.beside l.blocks).aside ≡ (g.B.Blocks.beside l.fn.blocks).aside;
+  faults : (g.B.Blocks.beside l.blocks).faults ≡ (g.B.Blocks.beside l.fn.blocks).faults;
 }

@@ -32,5 +32,5 @@ returns-clause-gone g c =
     let n : BlockState = g.B.Blocks.state c.give_up_each.new.blocks in
     let Q : ℕ → Type 0 = λ k. GivesUp m n c.args.work.now c.give_up_each.new.work c.args.plan.now (LiesUnder (per_block m.holdings.size) (record { level = c.args.plan.now.node.levels; first = 1; count = k })) (Ok tt) in
     outside_gives m n (g.B.Blocks.state c.give_up_spine.new.blocks) c.args.plan.now c.args.level c.args.work.now c.give_up_each.new.work c.give_up_spine.new.work c.give_up_spine.result
-    c.requires.consistent c.requires.long c.requires.plan c.if-top-level.false c.give_up_each.ensures.keeps c.give_up_spine.ensures.keeps
+    c.requires.consistent c.requires.long c.requires.plan c.if-top-level.false c.give_up_each.ensures.reads.keeps c.give_up_spine.ensures.reads.keeps
     (subst Q (own_count c.args.plan.now.node.pointers c.requires.long) c.in_ok-give_up_each.ensures.gone) c.give_up_spine.ensures.gone

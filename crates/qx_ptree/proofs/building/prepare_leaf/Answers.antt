@@ -13,7 +13,7 @@ use Rattle.qx_ptree.proofs.building.prepare_leaf.Goals as goal
 
 pub returns-in_err-give_up_below-in-Goes-clause-err : goal.returns-in_err-give_up_below-in-Goes-clause-err
 returns-in_err-give_up_below-in-Goes-clause-err g c =
-    at_err c.from_residual.result (adds_given (g.B.Blocks.state c.args.blocks.now) (g.B.Blocks.state c.give_up_below.new.blocks) c.args.work.now c.give_up_below.new.work c.give_up_below.ensures.gone.blocks c.give_up_below.ensures.keeps c.give_up_below.ensures.gone.is)
+    at_err c.from_residual.result (adds_given (g.B.Blocks.state c.args.blocks.now) (g.B.Blocks.state c.give_up_below.new.blocks) c.args.work.now c.give_up_below.new.work c.give_up_below.ensures.gone.blocks c.give_up_below.ensures.reads.keeps c.give_up_below.ensures.gone.is)
 
 pub returns-in-Stays-clause-built : goal.returns-in-Stays-clause-built
 returns-in-Stays-clause-built g c =
@@ -38,21 +38,21 @@ returns-in_ok-give_up_below-in-Goes-clause-built g c =
     let m : BlockState = g.B.Blocks.state c.args.blocks.now in
     gone_onto m (g.B.Blocks.state c.give_up_below.new.blocks) c.args.plan.now 0 c.args.index c.args.work.now c.give_up_below.new.work c.size.ensures.consistent c.requires.long c.requires.plan (omega arith) (inl (omega arith))
     (fare_one m.holdings.size c.args.plan.now Goes c.args.index (fate_here m c.args.plan.now c.args.index c.div_ceil-leaves.result c.size.result Goes c.leaf_fate.result c.size.ensures.consistent c.leaf_fate.ensures c.in-Goes.is c.div_ceil-leaves.ensures c.size.ensures.size))
-    c.give_up_below.ensures.keeps c.in_ok-give_up_below-in-Goes.ensures.gone
+    c.give_up_below.ensures.reads.keeps c.in_ok-give_up_below-in-Goes.ensures.gone
 
 pub returns-in_ok-give_up_below-in-Goes-clause-changed : goal.returns-in_ok-give_up_below-in-Goes-clause-changed
 returns-in_ok-give_up_below-in-Goes-clause-changed g c told =
     let m : BlockState = g.B.Blocks.state c.args.blocks.now in
     sym (ap (λ (x : Part). x.changed) (fare_part m c.args.plan.now Goes 0 c.args.index c.args.pointer c.size.ensures.consistent c.requires.long c.requires.plan (λ e. absurd (cc)) (omega arith) (inl (omega arith)) c.requires.pointer
     (fare_one m.holdings.size c.args.plan.now Goes c.args.index (fate_here m c.args.plan.now c.args.index c.div_ceil-leaves.result c.size.result Goes c.leaf_fate.result c.size.ensures.consistent c.leaf_fate.ensures c.in-Goes.is c.div_ceil-leaves.ensures c.size.ensures.size))
-    (told_before m (g.B.Blocks.state c.give_up_below.new.blocks) c.give_up_below.ensures.keeps told)))
+    (told_before m (g.B.Blocks.state c.give_up_below.new.blocks) c.give_up_below.ensures.reads.keeps told)))
 
 pub returns-in_ok-give_up_below-in-Goes-clause-present : goal.returns-in_ok-give_up_below-in-Goes-clause-present
 returns-in_ok-give_up_below-in-Goes-clause-present g c told =
     let m : BlockState = g.B.Blocks.state c.args.blocks.now in
     sym (ap (λ (x : Part). x.present) (fare_part m c.args.plan.now Goes 0 c.args.index c.args.pointer c.size.ensures.consistent c.requires.long c.requires.plan (λ e. absurd (cc)) (omega arith) (inl (omega arith)) c.requires.pointer
     (fare_one m.holdings.size c.args.plan.now Goes c.args.index (fate_here m c.args.plan.now c.args.index c.div_ceil-leaves.result c.size.result Goes c.leaf_fate.result c.size.ensures.consistent c.leaf_fate.ensures c.in-Goes.is c.div_ceil-leaves.ensures c.size.ensures.size))
-    (told_before m (g.B.Blocks.state c.give_up_below.new.blocks) c.give_up_below.ensures.keeps told)))
+    (told_before m (g.B.Blocks.state c.give_up_below.new.blocks) c.give_up_below.ensures.reads.keeps told)))
 
 pub returns-in_ok-written_leaf-in-Written-clause-built : goal.returns-in_ok-written_leaf-in-Written-clause-built
 returns-in_ok-written_leaf-in-Written-clause-built g c =
@@ -88,7 +88,7 @@ returns-in_ok-give_up_below-in-Goes-clause-reaches g c =
     let m : BlockState = g.B.Blocks.state c.args.blocks.now in
     let n : BlockState = g.B.Blocks.state c.give_up_below.new.blocks in
     onto_given_up m n n c.args.work.now c.give_up_below.new.work c.args.plan.now (LiesUnder (per_block m.holdings.size) (one_block 0 c.args.index)) _ (one_block 0 c.args.index) _
-    (Takes-none m n c.give_up_below.ensures.keeps) c.in_ok-give_up_below-in-Goes.ensures.gone
+    (Takes-none m n c.give_up_below.ensures.reads.keeps) c.in_ok-give_up_below-in-Goes.ensures.gone
     (unwritten_leaf m c.args.plan.now c.args.index c.div_ceil-leaves.result Goes c.in-Goes.ensures (λ e. cc))
 
 pub returns-in_ok-give_up_below-in-Goes-clause-marked : goal.returns-in_ok-give_up_below-in-Goes-clause-marked

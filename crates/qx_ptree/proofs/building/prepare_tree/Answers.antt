@@ -19,24 +19,24 @@ pub returns-in_err-old-clause-err : goal.returns-in_err-old-clause-err
 returns-in_err-old-clause-err g c =
     let m : BlockState = g.B.Blocks.state c.args.blocks.now in
     let n : BlockState = g.B.Blocks.state c.top_pointers.new.blocks in
-    at_err c.from_residual.result (adds_none m n c.args.work.now c.args.work.now (Takes-none m n c.in_err-old.ensures.keeps) refl)
+    at_err c.from_residual.result (adds_none m n c.args.work.now c.args.work.now (Takes-none m n c.in_err-old.ensures.reads.keeps) refl)
 
 pub give_up_outside-requires-clause-consistent : goal.give_up_outside-requires-clause-consistent
-give_up_outside-requires-clause-consistent g c = kept_consistent (g.B.Blocks.state c.args.blocks.now) (g.B.Blocks.state c.top_pointers.new.blocks) c.top_pointers.ensures.keeps c.size-size.ensures.consistent
+give_up_outside-requires-clause-consistent g c = kept_consistent (g.B.Blocks.state c.args.blocks.now) (g.B.Blocks.state c.top_pointers.new.blocks) c.top_pointers.ensures.reads.keeps c.size-size.ensures.consistent
 
 pub give_up_outside-requires-clause-plan : goal.give_up_outside-requires-clause-plan
-give_up_outside-requires-clause-plan g c = kept_plan (g.B.Blocks.state c.args.blocks.now) (g.B.Blocks.state c.top_pointers.new.blocks) c.args.plan.now c.top_pointers.ensures.keeps c.requires.plan
+give_up_outside-requires-clause-plan g c = kept_plan (g.B.Blocks.state c.args.blocks.now) (g.B.Blocks.state c.top_pointers.new.blocks) c.args.plan.now c.top_pointers.ensures.reads.keeps c.requires.plan
 
 pub returns-in_err-give_up_outside-clause-err : goal.returns-in_err-give_up_outside-clause-err
 returns-in_err-give_up_outside-clause-err g c =
     at_err c.from_residual-in_err-give_up_outside.result
     (outside_fails (g.B.Blocks.state c.args.blocks.now) (g.B.Blocks.state c.top_pointers.new.blocks) (g.B.Blocks.state c.give_up_outside.new.blocks) c.args.work.now c.give_up_outside.new.work c.args.plan.now _ c.give_up_outside.result
-    c.top_pointers.ensures.keeps c.give_up_outside.ensures.keeps c.give_up_outside.ensures.gone)
+    c.top_pointers.ensures.reads.keeps c.give_up_outside.ensures.reads.keeps c.give_up_outside.ensures.gone)
 
 pub loop-j-init : goal.loop-j-init
 loop-j-init g c = record {
   underway = underway_none (g.B.Blocks.state c.args.blocks.now) (g.B.Blocks.state c.top_pointers.new.blocks) (g.B.Blocks.state c.give_up_outside.new.blocks) c.args.work.now c.give_up_outside.new.work c.args.plan.now c.levels-level.result _
-      c.top_pointers.ensures.keeps c.give_up_outside.ensures.keeps c.in_ok-give_up_outside.ensures.gone;
+      c.top_pointers.ensures.reads.keeps c.give_up_outside.ensures.reads.keeps c.in_ok-give_up_outside.ensures.gone;
   long = refl;
   told = λ told. told;
   aside = search rules;
@@ -68,7 +68,7 @@ prepare_at-requires-clause-plan g c =
 pub prepare_at-requires-clause-pointer : goal.prepare_at-requires-clause-pointer
 prepare_at-requires-clause-pointer g c told =
     let u = c.loop-j.invariant.underway in
-    c.in_ok-old.ensures.pointers (told_before (g.B.Blocks.state c.top_pointers.new.blocks) (g.B.Blocks.state c.give_up_outside.new.blocks) c.give_up_outside.ensures.keeps (c.loop-j.invariant.told told)) c.loop-j.j (omega (arith, c.loop-j-test.true))
+    c.in_ok-old.ensures.pointers (told_before (g.B.Blocks.state c.top_pointers.new.blocks) (g.B.Blocks.state c.give_up_outside.new.blocks) c.give_up_outside.ensures.reads.keeps (c.loop-j.invariant.told told)) c.loop-j.j (omega (arith, c.loop-j-test.true))
     ∙ sym (later_pointer u.adds.added.fresh (g.B.Blocks.state c.args.blocks.now) (g.B.Blocks.state c.loop-j.blocks) c.args.plan.now c.levels-level.result c.loop-j.j c.size-size.ensures.consistent c.top_pointers.ensures.long c.requires.plan u.adds.takes told)
 
 pub returns-in_err-pointers-clause-err : goal.returns-in_err-pointers-clause-err
@@ -77,11 +77,8 @@ returns-in_err-pointers-clause-err g c =
     (underway_fails (g.B.Blocks.state c.args.blocks.now) (g.B.Blocks.state c.loop-j.blocks) (g.B.Blocks.state c.prepare_at.new.blocks) c.args.work.now c.loop-j.work c.prepare_at.new.work c.args.plan.now c.levels-level.result c.loop-j.j c.loop-j.pointers
     c.loop-j.invariant.underway c.in_err-pointers.ensures.err)
 
-pub returns-in_err-pointers-clause-aside : goal.returns-in_err-pointers-clause-aside
-returns-in_err-pointers-clause-aside g c = search rules
-
-pub returns-in_err-pointers-clause-cause : goal.returns-in_err-pointers-clause-cause
-returns-in_err-pointers-clause-cause g c = search (rules, arith)
+pub returns-in_err-pointers-clause-others : goal.returns-in_err-pointers-clause-others
+returns-in_err-pointers-clause-others g c = search (rules, arith)
 
 pub loop-j-preserved : goal.loop-j-preserved
 loop-j-preserved g c =
@@ -105,8 +102,5 @@ returns-clause-built g c =
     underway_all m (g.B.Blocks.state c.loop-j.blocks) c.args.work.now c.loop-j.work c.args.plan.now c.levels-level.result c.loop-j.j c.loop-j.pointers c.size.ensures.consistent
     (omega (arith, c.loop-j-test.false, c.loop-j.auto)) c.loop-j.invariant.long level c.loop-j.invariant.underway
 
-pub returns-clause-aside : goal.returns-clause-aside
-returns-clause-aside g c = search rules
-
-pub returns-clause-cause : goal.returns-clause-cause
-returns-clause-cause g c = search (rules, arith)
+pub returns-clause-others : goal.returns-clause-others
+returns-clause-others g c = search (rules, arith)

@@ -8,6 +8,6 @@ invariant-loop-j g l = record {
   underway : IsUnderway (g.B.Blocks.state l.fn.blocks) (g.B.Blocks.state l.blocks) l.fn.work l.work l.plan l.level l.j l.pointers;
   long : length l.pointers ≡ 16;
   told : IsTrue (g.B.Blocks.state l.blocks).tells → IsTrue (g.B.Blocks.state l.initial.blocks).tells;
-  aside : g.B.Blocks.aside l.blocks ≡ g.B.Blocks.aside l.fn.blocks;
-  faults : g.B.Blocks.faults l.blocks ≡ g.B.Blocks.faults l.fn.blocks;
+  aside : (g.B.Blocks.beside l.blocks).aside ≡ (g.B.Blocks.beside l.fn.blocks).aside;
+  faults : (g.B.Blocks.beside l.blocks).faults ≡ (g.B.Blocks.beside l.fn.blocks).faults;
 }

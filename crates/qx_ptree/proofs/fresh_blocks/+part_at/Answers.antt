@@ -86,14 +86,14 @@ loop-w-preserved g t c =
     let new : BlockState = g.B.Blocks.state c.part_at.new.blocks in
     let child_level : c.args.level ≤ levels_for b (leaves_after b c.args.plan.now.change) → c.args.level - 1 ≤ levels_for mid.holdings.size (leaves_after mid.holdings.size c.args.plan.now.change) = λ le.
     subst (λ h. c.args.level - 1 ≤ levels_for h.size (leaves_after h.size c.args.plan.now.change)) (sym c.loop-w.invariant.keeps.holdings) (omega (arith, le)) in
-    let mid_told : IsTrue new.tells → IsTrue mid.tells = λ told. subst (λ x. IsTrue x.tells) (c.in_ok-part_at.ensures.keeps.told told) told in
+    let mid_told : IsTrue new.tells → IsTrue mid.tells = λ told. subst (λ x. IsTrue x.tells) (c.in_ok-part_at.ensures.reads.keeps.told told) told in
     record {
       part = λ told le. part-more (alteration_in c.args.plan.now m) (c.args.level - 1) c.args.index (c.size-words.result / 4) c.loop-w.w c.loop-w.part c.in_ok-part_at.field-0 c.beside-part.result (ap (λ n. n / 4) c.size-words.ensures.size) (c.loop-w.invariant.part (mid_told told) le)
           (c.in_ok-part_at.ensures.part told (child_level le) ∙ kept_part m mid c.args.plan.now (c.args.level - 1) (c.args.index * (c.size-words.result / 4) + c.loop-w.w) c.loop-w.invariant.keeps (mid_told told)) c.beside-part.ensures;
       few = subst (λ x. x + (c.loop-w.w + 1) ≤ (c.loop-w.w + 1) * (2 * per_block b ^ (c.args.level - 1))) (sym (ap (λ p. p.need) c.beside-part.ensures))
           (few-more c.loop-w.w c.loop-w.part.need c.in_ok-part_at.field-0.need (per_block b ^ (c.args.level - 1)) c.loop-w.invariant.few (subst (λ h. c.in_ok-part_at.field-0.need + 1 ≤ 2 * per_block h.size ^ (c.args.level - 1)) c.loop-w.invariant.keeps.holdings c.in_ok-part_at.ensures.few));
       told = λ told. c.loop-w.invariant.told (mid_told told);
-      keeps = kept_again m mid new c.loop-w.invariant.keeps c.in_ok-part_at.ensures.keeps;
+      keeps = kept_again m mid new c.loop-w.invariant.keeps c.in_ok-part_at.ensures.reads.keeps;
       aside = search rules;
       faults = search rules;
     }

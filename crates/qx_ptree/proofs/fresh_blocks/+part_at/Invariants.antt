@@ -20,6 +20,6 @@ invariant-loop-w g l =
       told : IsTrue (g.B.Blocks.state l.blocks).tells → IsTrue (g.B.Blocks.state l.initial.blocks).tells;
       few : l.part.need + l.w ≤ l.w * (2 * per_block m.holdings.size ^ (l.level - 1));
       keeps : Keeps m (g.B.Blocks.state l.blocks);
-      aside : g.B.Blocks.aside l.blocks ≡ g.B.Blocks.aside l.fn.blocks;
-      faults : g.B.Blocks.faults l.blocks ≡ g.B.Blocks.faults l.fn.blocks;
+      aside : (g.B.Blocks.beside l.blocks).aside ≡ (g.B.Blocks.beside l.fn.blocks).aside;
+      faults : (g.B.Blocks.beside l.blocks).faults ≡ (g.B.Blocks.beside l.fn.blocks).faults;
     }

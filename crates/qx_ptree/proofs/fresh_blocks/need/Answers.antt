@@ -19,9 +19,9 @@ loop-j-init g c = record {
   need = λ told. sym (sum_up_to-begins (λ j. (part_of (alteration_in (record { node = c.args.node.now; order = c.args.order; change = c.args.change.now }) (g.B.Blocks.state c.args.blocks.now)) c.levels-level.result j).need));
   few = omega arith;
   told = λ told. told;
-  keeps = c.top_pointers.ensures.keeps;
-  aside = c.top_pointers.ensures.aside;
-  faults = search (rules, c.top_pointers.ensures.cause.kept);
+  keeps = c.top_pointers.ensures.reads.keeps;
+  aside = c.top_pointers.ensures.reads.others.aside;
+  faults = search (rules, c.top_pointers.ensures.reads.others.cause.kept);
 }
 
 pub part_at-requires-clause-reach : goal.part_at-requires-clause-reach
@@ -65,13 +65,13 @@ loop-j-preserved g c =
     let some : 0 < b = size_positive b c.size-size.ensures.consistent.size in
     let level : c.levels-level.result ≡ levels_for b (leaves_after b c.args.change.now) = level-is b c.size-size.result c.div_ceil.result c.levels-level.result c.args.change.now some c.size-size.ensures.size c.div_ceil.ensures c.levels-level.ensures in
     let within : c.levels-level.result ≤ levels_for mid.holdings.size (leaves_after mid.holdings.size plan.change) = subst (λ h. c.levels-level.result ≤ levels_for h.size (leaves_after h.size plan.change)) (sym c.loop-j.invariant.keeps.holdings) (omega (arith, level)) in
-    let mid_told : IsTrue new.tells → IsTrue mid.tells = λ told. subst (λ x. IsTrue x.tells) (c.in_ok-part.ensures.keeps.told told) told in
+    let mid_told : IsTrue new.tells → IsTrue mid.tells = λ told. subst (λ x. IsTrue x.tells) (c.in_ok-part.ensures.reads.keeps.told told) told in
     record {
       need = λ told. need-more (alteration_in plan m) c.levels-level.result c.loop-j.need c.loop-j.j (c.loop-j.need + c.in_ok-part.part.need) c.in_ok-part.part (c.loop-j.invariant.need (mid_told told))
           (c.in_ok-part.ensures.part told within ∙ kept_part m mid plan c.levels-level.result c.loop-j.j c.loop-j.invariant.keeps (mid_told told)) refl;
       few = few-more c.loop-j.j c.loop-j.need c.in_ok-part.part.need (per_block b ^ c.levels-level.result) c.loop-j.invariant.few (subst (λ h. c.in_ok-part.part.need + 1 ≤ 2 * per_block h.size ^ c.levels-level.result) c.loop-j.invariant.keeps.holdings c.in_ok-part.ensures.few);
       told = λ told. c.loop-j.invariant.told (mid_told told);
-      keeps = kept_again m mid new c.loop-j.invariant.keeps c.in_ok-part.ensures.keeps;
+      keeps = kept_again m mid new c.loop-j.invariant.keeps c.in_ok-part.ensures.reads.keeps;
       aside = search rules;
       faults = search rules;
     }

@@ -15,6 +15,6 @@ invariant-loop-j g l =
       few : l.need + l.j ≤ l.j * (2 * per_block m.holdings.size ^ l.level);
       told : IsTrue (g.B.Blocks.state l.blocks).tells → IsTrue (g.B.Blocks.state l.initial.blocks).tells;
       keeps : Keeps m (g.B.Blocks.state l.blocks);
-      aside : g.B.Blocks.aside l.blocks ≡ g.B.Blocks.aside l.fn.blocks;
-      faults : g.B.Blocks.faults l.blocks ≡ g.B.Blocks.faults l.fn.blocks;
+      aside : (g.B.Blocks.beside l.blocks).aside ≡ (g.B.Blocks.beside l.fn.blocks).aside;
+      faults : (g.B.Blocks.beside l.blocks).faults ≡ (g.B.Blocks.beside l.fn.blocks).faults;
     }

@@ -102,7 +102,7 @@ returns-then-is_some-clause-hole g t c told =
     let mid : BlockState = g.B.Blocks.state c.loop-w.blocks in
     let new : BlockState = g.B.Blocks.state c.hole_below.new.blocks in
     let P : ℕ = per_block m.holdings.size in
-    let mid_told : IsTrue mid.tells = told_before mid new c.in_ok-hole.ensures.keeps told in
+    let mid_told : IsTrue mid.tells = told_before mid new c.in_ok-hole.ensures.reads.keeps told in
     let some : is_some c.in_ok-hole.hole ≡ true = search rules in
     lack_ends (present_of (block_map c.args.order m) c.args.node.now) (c.args.index * P ^ c.args.level) ((c.args.index * P + c.loop-w.w) * P ^ (c.args.level - 1)) ((c.args.index * P + c.loop-w.w + 1) * P ^ (c.args.level - 1)) ((c.args.index + 1) * P ^ c.args.level) c.in_ok-hole.hole some
     (c.loop-w.invariant.each mid_told)
@@ -126,13 +126,13 @@ loop-w-preserved g t c =
     let up : c.args.index * P + c.loop-w.w + 1 ≡ c.args.index * P + (c.loop-w.w + 1) = omega arith in
     record {
       each = λ told.
-          let mid_told : IsTrue mid.tells = told_before mid new c.in_ok-hole.ensures.keeps told in
+          let mid_told : IsTrue mid.tells = told_before mid new c.in_ok-hole.ensures.reads.keeps told in
           subst (λ k. HasEach (present_of (block_map c.args.order m) c.args.node.now) (c.args.index * P ^ c.args.level) (k * P ^ (c.args.level - 1))) up
           (lack_goes_on (present_of (block_map c.args.order m) c.args.node.now) (c.args.index * P ^ c.args.level) ((c.args.index * P + c.loop-w.w) * P ^ (c.args.level - 1)) ((c.args.index * P + c.loop-w.w + 1) * P ^ (c.args.level - 1)) c.in_ok-hole.hole none
           (c.loop-w.invariant.each mid_told)
           (lack_kept c.args.order m mid c.args.node.now (c.args.level - 1) c.args.index (c.size-size.result / 4) c.loop-w.w c.in_ok-hole.hole (c.loop-w.invariant.keeps.told mid_told) (ap (λ n. n / 4) c.size-size.ensures.size) (c.in_ok-hole.ensures.hole told)));
-      told = λ told. c.loop-w.invariant.told (told_before mid new c.in_ok-hole.ensures.keeps told);
-      keeps = kept_again m mid new c.loop-w.invariant.keeps c.in_ok-hole.ensures.keeps;
+      told = λ told. c.loop-w.invariant.told (told_before mid new c.in_ok-hole.ensures.reads.keeps told);
+      keeps = kept_again m mid new c.loop-w.invariant.keeps c.in_ok-hole.ensures.reads.keeps;
       aside = search rules;
       faults = search rules;
     }

@@ -18,6 +18,6 @@ invariant-loop-w g l =
       each : IsTrue (g.B.Blocks.state l.blocks).tells → HasEach (present_of (block_map l.order m) l.node) (l.index * per_block b ^ l.level) ((l.index * per_block b + l.w) * per_block b ^ (l.level - 1));
       told : IsTrue (g.B.Blocks.state l.blocks).tells → IsTrue (g.B.Blocks.state l.initial.blocks).tells;
       keeps : Keeps m (g.B.Blocks.state l.blocks);
-      aside : g.B.Blocks.aside l.blocks ≡ g.B.Blocks.aside l.fn.blocks;
-      faults : g.B.Blocks.faults l.blocks ≡ g.B.Blocks.faults l.fn.blocks;
+      aside : (g.B.Blocks.beside l.blocks).aside ≡ (g.B.Blocks.beside l.fn.blocks).aside;
+      faults : (g.B.Blocks.beside l.blocks).faults ≡ (g.B.Blocks.beside l.fn.blocks).faults;
     }

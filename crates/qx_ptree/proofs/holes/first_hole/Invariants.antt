@@ -13,6 +13,6 @@ invariant-loop-j g l =
     record {
       each : IsTrue (g.B.Blocks.state l.blocks).tells → HasEach (present_of (block_map l.order m) l.node) 0 (l.j * per_block m.holdings.size ^ l.node.levels);
       keeps : Keeps m (g.B.Blocks.state l.blocks);
-      aside : g.B.Blocks.aside l.blocks ≡ g.B.Blocks.aside l.fn.blocks;
-      faults : g.B.Blocks.faults l.blocks ≡ g.B.Blocks.faults l.fn.blocks;
+      aside : (g.B.Blocks.beside l.blocks).aside ≡ (g.B.Blocks.beside l.fn.blocks).aside;
+      faults : (g.B.Blocks.beside l.blocks).faults ≡ (g.B.Blocks.beside l.fn.blocks).faults;
     }

@@ -20,7 +20,7 @@ pub leaf_below-requires : goal.leaf_below-requires
 leaf_below-requires g t c κs within =
     let old : BlockState = g.B.Blocks.state c.args.blocks.now in
     let mid : BlockState = g.B.Blocks.state c.read.follows.lender-at-none in
-    let bytes = rw c.in_ok-bytes.was at c.read.follows.holds-at-none.3 in
+    let bytes = rw c.in_ok-bytes.was at c.read.follows.holds-at-none.1 in
     let is : IsTrue mid.tells → c.get32-next.result ≡ word (block_map c.args.order old) c.args.pointer (c.args.index / per_block old.holdings.size ^ (c.args.level - 1) % per_block old.holdings.size) = λ told.
     read_word c.args.order old c.args.level c.args.pointer c.args.index c.get32-next.result c.size.result c.from.result c.pow.result c.in_ok-bytes.bytes.now c.size.ensures.size c.from.ensures c.pow.ensures (bytes told) c.get32-next.ensures in (
       omega (arith, c.decreases),
@@ -28,7 +28,7 @@ leaf_below-requires g t c κs within =
         within,
         (
           omega (arith, c.requires.level),
-          path_after c.args.order old mid c.args.level c.args.pointer c.args.index c.get32-next.result c.read.follows.holds-at-none.0 c.if-level-eq0.false c.if-pointer-eq-ABSENT.false is c.requires.leads,
+          path_after c.args.order old mid c.args.level c.args.pointer c.args.index c.get32-next.result c.read.follows.holds-at-none.0.keeps c.if-level-eq0.false c.if-pointer-eq-ABSENT.false is c.requires.leads,
         ),
       ),
     )
@@ -37,9 +37,9 @@ pub returns-clause-found : goal.returns-clause-found
 returns-clause-found g t c =
     let old : BlockState = g.B.Blocks.state c.args.blocks.now in
     let mid : BlockState = g.B.Blocks.state c.read.follows.lender-at-none in
-    let bytes = rw c.in_ok-bytes.was at c.read.follows.holds-at-none.3 in
+    let bytes = rw c.in_ok-bytes.was at c.read.follows.holds-at-none.1 in
     let is : IsTrue mid.tells → c.get32-next.result ≡ word (block_map c.args.order old) c.args.pointer (c.args.index / per_block old.holdings.size ^ (c.args.level - 1) % per_block old.holdings.size) = λ told.
     read_word c.args.order old c.args.level c.args.pointer c.args.index c.get32-next.result c.size.result c.from.result c.pow.result c.in_ok-bytes.bytes.now c.size.ensures.size c.from.ensures c.pow.ensures (bytes told) c.get32-next.ensures in
     let works : IsTrue (old.holdings.works c.args.pointer) = cc (c.works.ensures.works, c.if-not-works.false) in
-    found_after c.args.order old mid _ c.args.level c.args.pointer c.args.index c.get32-next.result c.leaf_below.result c.read.follows.holds-at-none.0 c.leaf_below.ensures.keeps
+    found_after c.args.order old mid _ c.args.level c.args.pointer c.args.index c.get32-next.result c.leaf_below.result c.read.follows.holds-at-none.0.keeps c.leaf_below.ensures.reads.keeps
     c.if-level-eq0.false c.if-pointer-eq-ABSENT.false (works_below old c.args.pointer c.size.ensures.consistent works) is c.leaf_below.ensures.found

@@ -18,7 +18,7 @@ returns-then-level-plan-clause-pointers g c =
     let other : c.args.level ≡ c.args.plan.now.node.levels + 1 → c.args.index ≢ 0 = λ e. elim c.then-level-plan.either [ inl no_more ↦ absurd (no_more e) | inr more ↦ more.1 ] in
     on_ok_weaker c.read_pointers.result
     (λ words told w low.
-    let m_told : IsTrue m.tells = subst (λ x. IsTrue x.tells) (c.read_pointers.ensures.keeps.told told) told in
+    let m_told : IsTrue m.tells = subst (λ x. IsTrue x.tells) (c.read_pointers.ensures.reads.keeps.told told) told in
     words told w low
     ∙ planned_step m c.args.plan.now c.args.level c.args.index w c.args.pointer c.requires.consistent c.own_pointers-own.ensures.long c.requires.level (omega (arith, low, c.requires.room)) other (c.requires.pointer m_told))
     c.read_pointers.ensures.pointers

@@ -10,5 +10,5 @@ pub returns-clause-pointers : goal.returns-clause-pointers
 returns-clause-pointers g c =
     let old : BlockState = g.B.Blocks.state c.args.blocks.now in
     let mid : BlockState = g.B.Blocks.state c.read.follows.lender-at-none in
-    let bytes = rw c.in_ok-bytes.was at c.read.follows.holds-at-none.3 in
-    words_after c.args.order old mid c.args.pointer c.leading-pointer.result (length c.args.into.now) c.in_ok-bytes.bytes.now _ c.read.follows.holds-at-none.0 c.if-pointer.false c.leading-pointer.ensures.same c.requires.leads bytes c.get32s.ensures
+    let bytes = rw c.in_ok-bytes.was at c.read.follows.holds-at-none.1 in
+    words_after c.args.order old mid c.args.pointer c.leading-pointer.result (length c.args.into.now) c.in_ok-bytes.bytes.now _ c.read.follows.holds-at-none.0.keeps c.if-pointer.false c.leading-pointer.ensures.same c.requires.leads bytes c.get32s.ensures

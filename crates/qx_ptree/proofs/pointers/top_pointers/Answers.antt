@@ -32,7 +32,7 @@ loop-preserved g c =
     record {
       pointers = λ told j low. down_after old mid c.args.plan.now (c.args.plan.now.node.levels + c.args.level - c.loop.counter) (c.args.plan.now.node.levels + c.args.level - (c.loop.counter + 1)) j _ _ c.requires.consistent c.loop.invariant.keeps
           (omega (arith, c.loop-test.true, c.loop.auto.counter)) (omega (arith, c.loop-test.true, c.loop.auto.counter)) low
-          (λ mid_told. c.loop.invariant.pointers mid_told 0 (omega arith)) (c.in_ok-read_pointers.ensures.keeps.told told) told (c.in_ok-read_pointers.ensures.pointers told j (omega (arith, low, long)));
+          (λ mid_told. c.loop.invariant.pointers mid_told 0 (omega arith)) (c.in_ok-read_pointers.ensures.reads.keeps.told told) told (c.in_ok-read_pointers.ensures.pointers told j (omega (arith, low, long)));
       keeps = search rules;
       aside = search rules;
       faults = search rules;

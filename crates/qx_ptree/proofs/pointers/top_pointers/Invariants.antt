@@ -8,6 +8,6 @@ abbrev pub invariant-loop : goal.invariant-loop
 invariant-loop g l = record {
   pointers : IsTrue (g.B.Blocks.state l.blocks).tells → (j : ℕ) → j < 16 → slice_index l.pointers j ≡ planned_pointer l.plan (g.B.Blocks.state l.fn.blocks) (l.plan.node.levels + l.level - l.counter) j;
   keeps : Keeps (g.B.Blocks.state l.fn.blocks) (g.B.Blocks.state l.blocks);
-  aside : g.B.Blocks.aside l.blocks ≡ g.B.Blocks.aside l.fn.blocks;
-  faults : g.B.Blocks.faults l.blocks ≡ g.B.Blocks.faults l.fn.blocks;
+  aside : (g.B.Blocks.beside l.blocks).aside ≡ (g.B.Blocks.beside l.fn.blocks).aside;
+  faults : (g.B.Blocks.beside l.blocks).faults ≡ (g.B.Blocks.beside l.fn.blocks).faults;
 }

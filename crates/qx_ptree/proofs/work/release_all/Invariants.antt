@@ -6,6 +6,5 @@ use Rattle.qx_ptree.proofs.work.release_all.Given as goal
 abbrev pub invariant-loop-b : goal.invariant-loop-b
 invariant-loop-b g l = record {
   rest : without_all (g.B.Blocks.state l.blocks) (drop l.b-index l.released) ≡ without_all (g.B.Blocks.state l.initial.blocks) l.released;
-  aside : g.B.Blocks.aside l.blocks ≡ g.B.Blocks.aside l.initial.blocks;
-  faults : g.B.Blocks.faults l.blocks ≡ g.B.Blocks.faults l.initial.blocks;
+  beside : g.B.Blocks.beside l.blocks ≡ g.B.Blocks.beside l.initial.blocks;
 }

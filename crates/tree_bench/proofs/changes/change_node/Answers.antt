@@ -1,5 +1,5 @@
 use Rattle.std.proofs.lemmas.Result.{err_from_is_err_and}
-use Rattle.std.proofs.Common.{sym, subst}
+use Rattle.std.proofs.Common.{ap, sym, subst, Err}
 use Rattle.qx_geom.specs.declared.root.Root.{Root}
 use Rattle.qx_blocks.specs.BlockState.{BlockState}
 use Rattle.qx_ptree.specs.ReadyLeaves.{IsReadyApart, IsWrittenBy}
@@ -30,10 +30,10 @@ returns-clause-node g c =
     let now : BlockState = g.B.Blocks.state c.prepare.new.blocks in
     let new : BlockState = g.B.Blocks.state c.commit.new.blocks in
     subst (IsNode c.args.order new) (sym c.commit.ensures.node)
-    (node-made c.args.order old now new c.in_ok-p.p c.in_ok-p.ensures.levels c.in_ok-p.ensures.takes c.in_ok-p.ensures.prepared c.commit.ensures.blocks c.commit.ensures.others)
+    (node-made c.args.order old now new c.in_ok-p.p c.in_ok-p.ensures.levels c.in_ok-p.ensures.takes c.in_ok-p.ensures.prepared c.commit.ensures.blocks c.commit.ensures.rest)
 
 pub returns-in_err-p-clause-reason : goal.returns-in_err-p-clause-reason
 returns-in_err-p-clause-reason g c =
     let p = err_from_is_err_and c.from_residual-in_err-p.result c.from_residual-in_err-p.ensures.1 in
-    rw (p.1, p.2) (stopped c.args.order (g.B.Blocks.state c.args.blocks.now) c.args.node.now c.args.change.now (g.B.Blocks.state c.prepare.new.blocks).tells (g.B.Blocks.faults c.args.blocks.now)
-    (g.B.Blocks.faults c.checked_need.new.blocks) (g.B.Blocks.faults c.prepare.new.blocks) c.in_err-p.field-0.0 c.checked_need.ensures.later c.in_err-p.ensures.cause.device)
+    rw (p.1, p.2) (stopped c.args.order (g.B.Blocks.state c.args.blocks.now) c.args.node.now c.args.change.now (g.B.Blocks.state c.prepare.new.blocks).tells (g.B.Blocks.beside c.args.blocks.now).faults
+    (g.B.Blocks.beside c.checked_need.new.blocks).faults (g.B.Blocks.beside c.prepare.new.blocks).faults c.in_err-p.field-0.0 c.checked_need.ensures.later (λ e. c.in_err-p.ensures.others.cause.failed (ap (λ s. Err s) e)))

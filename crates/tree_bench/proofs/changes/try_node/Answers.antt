@@ -1,5 +1,5 @@
 use Rattle.std.proofs.lemmas.Result.{err_from_is_err_and}
-use Rattle.std.proofs.Common.{[]}
+use Rattle.std.proofs.Common.{[], ap, Err}
 use Rattle.qx_ptree.proofs.TakenBlocks.{Takes-after}
 use Rattle.tree_bench.proofs.Reasons.{stopped}
 use Rattle.tree_bench.proofs.KeptNodes.{node-back}
@@ -31,5 +31,5 @@ returns-clause-node g c =
 pub returns-in_err-p-clause-reason : goal.returns-in_err-p-clause-reason
 returns-in_err-p-clause-reason g c =
     let p = err_from_is_err_and c.from_residual-in_err-p.result c.from_residual-in_err-p.ensures.1 in
-    rw (p.1, p.2) (stopped c.args.order (g.B.Blocks.state c.args.blocks.now) c.args.node.now c.args.change.now (g.B.Blocks.state c.prepare.new.blocks).tells (g.B.Blocks.faults c.args.blocks.now)
-    (g.B.Blocks.faults c.checked_need.new.blocks) (g.B.Blocks.faults c.prepare.new.blocks) c.in_err-p.field-0.0 c.checked_need.ensures.later c.in_err-p.ensures.cause.device)
+    rw (p.1, p.2) (stopped c.args.order (g.B.Blocks.state c.args.blocks.now) c.args.node.now c.args.change.now (g.B.Blocks.state c.prepare.new.blocks).tells (g.B.Blocks.beside c.args.blocks.now).faults
+    (g.B.Blocks.beside c.checked_need.new.blocks).faults (g.B.Blocks.beside c.prepare.new.blocks).faults c.in_err-p.field-0.0 c.checked_need.ensures.later (λ e. c.in_err-p.ensures.others.cause.failed (ap (λ s. Err s) e)))

@@ -13,7 +13,7 @@ pub returns-clause-works : goal.returns-clause-works
 returns-clause-works g c = λ told.
     let now : BlockState = g.B.Blocks.state c.prepare.new.blocks in
     let p = c.in_ok-p.p in
-    let before : IsTrue now.tells = sym c.commit.ensures.others.tells ∙ told in
+    let before : IsTrue now.tells = sym c.commit.ensures.rest.tells ∙ told in
     let alters : Alters c.args.order (g.B.Blocks.state c.need.new.blocks) p (committed now p) = (c.in_ok-p.ensures.prepared before).commits now (as_left c.args.order p now) in
     subst (λ (n : Root). IsWorking c.args.order (g.B.Blocks.state c.commit.new.blocks) n) (sym c.commit.ensures.node)
     (subst (λ (x : BlockState). IsWorking c.args.order x p.root) (sym c.commit.ensures.blocks) alters.works)
@@ -22,7 +22,7 @@ pub returns-clause-regular : goal.returns-clause-regular
 returns-clause-regular g c = λ told.
     let now : BlockState = g.B.Blocks.state c.prepare.new.blocks in
     let p = c.in_ok-p.p in
-    let before : IsTrue now.tells = sym c.commit.ensures.others.tells ∙ told in
+    let before : IsTrue now.tells = sym c.commit.ensures.rest.tells ∙ told in
     let alters : Alters c.args.order (g.B.Blocks.state c.need.new.blocks) p (committed now p) = (c.in_ok-p.ensures.prepared before).commits now (as_left c.args.order p now) in
     subst (λ (n : Root). IsRegular c.args.order (g.B.Blocks.state c.commit.new.blocks) n) (sym c.commit.ensures.node)
     (subst (λ (x : BlockState). IsRegular c.args.order x p.root) (sym c.commit.ensures.blocks) alters.regular)

@@ -4,10 +4,10 @@ use Rattle.qx_outside.specs.Trail.{bytes_of}
 use Rattle.std.specs.FinMap.{get}
 use Rattle.qx_alloc.specs.SpaceState.{is_held}
 use Rattle.qx_blocks.specs.Calls.{Keeps}
-use Rattle.qx_cache.specs.CacheState.{aside_of, bytes_over, change_of, device_block, state_of}
+use Rattle.qx_cache.specs.CacheState.{bytes_over, change_of, device_block, state_of}
 use Rattle.qx_cache.specs.Calls.{after_read}
 use Rattle.qx_cache.proofs.BlockMeanings.{keeps-read}
-use Rattle.qx_cache.proofs.BlockReads.{changed-bytes, same-aside}
+use Rattle.qx_cache.proofs.BlockReads.{changed-bytes}
 use Rattle.qx_cache.proofs.blocks.CacheBlocks.read.Goals as goal
 
 pub bring-requires : goal.bring-requires
@@ -27,9 +27,13 @@ returns g c =
         refl,
         λ _. tt,
         (
-          subst (λ w. Keeps (state_of g.H.Dev.outside old) (state_of g.H.Dev.outside w)) (sym whole) (keeps-read g.H.Dev.outside old new.host kept idles),
-          ap (aside_of g.H.Dev.outside) whole ∙ same-aside g.H.Dev.outside old new.host kept c.in_ok-bring.ensures.others.paths c.in_ok-bring.ensures.others.console,
-          record { later = c.in_ok-bring.ensures.cause.later; device = tt; kept = λ _. search (rules, c.in_ok-bring.ensures.cause.kept) },
+          record {
+            keeps = subst (λ w. Keeps (state_of g.H.Dev.outside old) (state_of g.H.Dev.outside w)) (sym whole) (keeps-read g.H.Dev.outside old new.host kept idles);
+            others = record {
+              aside = c.in_ok-bring.ensures.others.aside;
+              cause = record { later = c.in_ok-bring.ensures.others.cause.later; failed = λ e. absurd (cc (e)); kept = λ _. search (rules, c.in_ok-bring.ensures.others.cause.kept) };
+            };
+          },
           λ told. c.at_hand.ensures.told told
               ∙ ap (λ w. bytes_over (bytes_of (g.H.Dev.outside new.host).history) w c.args.b) whole
               ∙ ap (λ h. bytes_over (bytes_of h) old c.args.b) (idles.step told),

@@ -9,7 +9,7 @@ returns-clause-back g c = λ m f.
     let same : c.deref.result.now ≡ c.args.self.now.fresh = c.deref.ensures.value ∙ ap (λ (w : WorkState). w.fresh) c.self.view_is in
     rw (c.release_all.ensures.released, same) (Takes-without_all c.args.self.now.fresh m (g.B.Blocks.state c.args.blocks.now) f)
 
-pub returns-clause-others : goal.returns-clause-others
-returns-clause-others g c =
+pub returns-clause-rest : goal.returns-clause-rest
+returns-clause-rest g c =
     let same : c.deref.result.now ≡ c.args.self.now.fresh = c.deref.ensures.value ∙ ap (λ (w : WorkState). w.fresh) c.self.view_is in
     rw (c.release_all.ensures.released, same) (LeavesOthers-without_all c.args.self.now.fresh (g.B.Blocks.state c.args.blocks.now) c.args.self.now.fresh (λ b h. h))

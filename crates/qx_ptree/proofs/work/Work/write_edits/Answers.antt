@@ -25,11 +25,10 @@ loop-edit-preserved g c =
     record {
       rest = rw written (sym (with_edits-drop (g.B.Blocks.state c.loop-edit.blocks) c.deref-edit-items.result.now c.loop-edit.edit-index c.edit-item.result c.loop-edit-test.true c.edit-item.is) ∙ c.loop-edit.invariant.rest);
       holdings = rw written c.loop-edit.invariant.holdings;
-      aside = g.met.B.Blocks.edits_aside c.loop-edit.blocks c.edit-item.result.block c.copy_from_slice.new.self ∙ c.loop-edit.invariant.aside;
-      faults = g.met.B.Blocks.edits_faults c.loop-edit.blocks c.edit-item.result.block c.copy_from_slice.new.self ∙ c.loop-edit.invariant.faults;
+      beside = g.met.B.Blocks.edits_beside c.loop-edit.blocks c.edit-item.result.block c.copy_from_slice.new.self ∙ c.loop-edit.invariant.beside;
     }
 
-pub returns-clause-others : goal.returns-clause-others
-returns-clause-others g c =
+pub returns-clause-rest : goal.returns-clause-rest
+returns-clause-rest g c =
     LeavesOthers-edits (g.B.Blocks.state c.args.blocks.now) (g.B.Blocks.state c.loop-edit.blocks) c.args.self.now c.self.inside c.deref-edit-items.result.now c.loop-edit.edit-index
     c.self.view_is c.deref-edit-items.ensures.value c.requires c.loop-edit-test.false c.loop-edit.invariant.rest

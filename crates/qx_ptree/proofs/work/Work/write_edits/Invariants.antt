@@ -8,6 +8,5 @@ abbrev pub invariant-loop-edit : goal.invariant-loop-edit
 invariant-loop-edit g l = record {
   rest : with_edits (g.B.Blocks.state l.blocks) (map edit_in (drop l.edit-index l.edit-items)) ≡ with_edits (g.B.Blocks.state l.initial.blocks) (map edit_in l.edit-items);
   holdings : (g.B.Blocks.state l.blocks).holdings ≡ (g.B.Blocks.state l.initial.blocks).holdings;
-  aside : g.B.Blocks.aside l.blocks ≡ g.B.Blocks.aside l.initial.blocks;
-  faults : g.B.Blocks.faults l.blocks ≡ g.B.Blocks.faults l.initial.blocks;
+  beside : g.B.Blocks.beside l.blocks ≡ g.B.Blocks.beside l.initial.blocks;
 }
