@@ -1,1 +1,2 @@
 mod CleanCounts
+mod LookedOver

@@ -1,5 +1,7 @@
 -- What the checker says of an image, against the verdict of the definitions.
-use Rattle.std.specs.Prelude.{◌≡◌, ℕ, List, Result, Ok, Err}
+use Rattle.std.specs.Prelude.{◌≡◌, ◌+◌, ◌≤◌, ℕ, List, Result, Ok, Err, Some}
+use Rattle.qx_outside.specs.Outside.{Outside}
+use Rattle.qx_pointers.specs.Shown.{Looks}
 use Rattle.qx_super.specs.Superblock.{Superblock}
 use Rattle.qx_view.specs.Sound.{Clean, Damaged, Disagree, Foreign, NoVolume, verdict_of}
 use Rattle.qx_check.specs.declared.verdict.CheckFault.{CheckFault}
@@ -25,3 +27,9 @@ IsFault img faults.NoMemory = Unit {0}
 abbrev pub SaysVerdict : List ℕ → Result Verdict CheckFault → Type 0
 SaysVerdict img (Ok verdict) = IsVerdict img verdict
 SaysVerdict img (Err fault) = IsFault img fault
+
+-- the checker looks alone, and where the device tells its length, it reads no more often than there are bytes, and twice
+pub record LooksOver {T : Type 0} (old new : Outside) (result : Result T CheckFault) : Type 0 where
+  pub most : ℕ
+  pub few : (len : ℕ) → new.extent ≡ Some len → most ≤ len + 2
+  pub looks : Looks faults.Device 0 most old new result

@@ -1,10 +1,7 @@
 //! The check of an image.
-ghost use Rattle.std.specs.Prelude.{◌≡◌, ◌≤◌, Err, IsTrue};
-ghost use Rattle.qx_outside.specs.Causes.{Rose};
+ghost use Rattle.std.specs.Prelude.{IsTrue};
 ghost use Rattle.qx_outside.specs.Trail.{bytes_of};
-ghost use Rattle.qx_pointers.specs.Shown.{JustReads};
-ghost use Rattle.qx_check.specs.declared.verdict.CheckFault.TheVariants as faults;
-ghost use Rattle.qx_check.specs.Verdicts.{SaysVerdict};
+ghost use Rattle.qx_check.specs.Verdicts.{LooksOver, SaysVerdict};
 
 use crate::{CheckFault, Verdict};
 use qx_outside::Dev;
@@ -13,11 +10,9 @@ use std::alloc::Global;
 
 /// Says whether a device holds a volume that is right: the verdict that the definitions give on its bytes.
 pub fn check<D: Dev>(alloc: Global, host: &mut D) -> Result<Verdict, CheckFault>
-    ensures says { IsTrue (D.outside host.new).tells → SaysVerdict (bytes_of (D.outside host.old).history) result }
-    ensures reads { JustReads (D.outside host.old) (D.outside host.new) }
-    ensures later { (D.outside host.old).dev_faults ≤ (D.outside host.new).dev_faults }
-    ensures device { result ≡ Err faults.Device → Rose (D.outside host.old).dev_faults (D.outside host.new).dev_faults }
-    ensures kept { (result ≡ Err faults.Device → ⊥) → (D.outside host.new).dev_faults ≡ (D.outside host.old).dev_faults }
+    ensures says { IsTrue (D.outside host.new).tells
+        → SaysVerdict (bytes_of (D.outside host.old).history) result }
+    ensures looks { LooksOver (D.outside host.old) (D.outside host.new) result }
 {
     let Ok(len) = host.len() else {
         return Err(CheckFault::Device);

@@ -1,13 +1,14 @@
 -- Tests end to end, gone through one after another.
 use Rattle.std.proofs.Common.{◌≡◌, ℕ, List, [], ◌∷◌, ◌++◌, refl, sym, ◌∙◌, ap, subst}
-use Rattle.std.specs.Prelude.{Option, Result, Ok, Err, OnOk}
+use Rattle.std.specs.Prelude.{Option, Result, Ok, Err, IfErr, OnOk}
 use Rattle.qx_blockset.specs.Members.{Members}
+use Rattle.qx_outside.specs.Outside.{Outside}
 use Rattle.qx_view.specs.declared.findings.Finding.{Finding}
 use Rattle.qx_view.proofs.TestOrder.{first_failing-append, or_else}
 use Rattle.qx_view.specs.Walk.{Test, first_failing, gone_through, met_after}
 use Rattle.qx_pointers.specs.declared.halt.Halt.{Halt}
 use Rattle.qx_pointers.specs.declared.halt.Halt.TheVariants as halts
-use Rattle.qx_pointers.specs.Halts.{Answers, HaltsAt}
+use Rattle.qx_pointers.specs.Halts.{Answers, Asks, HaltsAt}
 use Rattle.qx_pointers.specs.Marks.{GoesThrough, Marks}
 
 -- what is met in two lists of tests is met in one after the other
@@ -20,6 +21,13 @@ pub halts_more : (halt : Halt) (f o : Option Finding) → HaltsAt f halt → Hal
 halts_more (halts.Finding found) f o e = ap (λ z. or_else z o) e
 halts_more halts.Device f o e = tt
 halts_more halts.NoMemory f o e = tt
+
+-- a part that tests nothing halts at no finding
+pub no_finding : {T : Type 0} (most : ℕ) (old new : Outside) (result : Result T Halt) (f : Option Finding) → Asks most old new result → IfErr result (HaltsAt f)
+no_finding most old new (Ok x) f a = tt
+no_finding most old new (Err halts.Device) f a = tt
+no_finding most old new (Err halts.NoMemory) f a = tt
+no_finding most old new (Err (halts.Finding finding)) f a = absurd (let e = a.device in cc)
 
 -- no test is gone through by doing nothing
 pub goes_nowhere : {T : Type 0} (x : T) (a : Members) → GoesThrough [] (Ok x) a a

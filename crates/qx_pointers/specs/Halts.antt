@@ -1,9 +1,11 @@
 -- What an answer of a part of the walk says.
-use Rattle.std.specs.Prelude.{◌≡◌, ◌≤◌, ℕ, Result, Ok, Err, Option, Some, None}
-use Rattle.qx_outside.specs.Causes.{Rose}
+use Rattle.std.specs.Prelude.{◌≡◌, ℕ, Result, Ok, Err, OnErr, Option, Some, None}
+use Rattle.qx_outside.specs.Causes.{HasCause}
+use Rattle.qx_outside.specs.Outside.{Outside}
+use Rattle.qx_view.specs.declared.findings.Finding.{Finding}
 use Rattle.qx_pointers.specs.declared.halt.Halt.{Halt}
 use Rattle.qx_pointers.specs.declared.halt.Halt.TheVariants as halts
-use Rattle.qx_view.specs.declared.findings.Finding.{Finding}
+use Rattle.qx_pointers.specs.Shown.{JustReads}
 
 -- the walk halts at this finding, if it halts at one
 abbrev pub HaltsAt : Option Finding → Halt → Type 0
@@ -16,8 +18,8 @@ abbrev pub Answers : {T : Type 0} → Option Finding → Result T Halt → Type 
 Answers f (Ok x) = f ≡ None
 Answers f (Err halt) = HaltsAt f halt
 
--- the count of faults never falls, a halt by the device comes only where it rose, and any other answer only where it stands
-pub record IsCaused {T : Type 0} (before now : ℕ) (result : Result T Halt) : Type 0 where
-  pub later : before ≤ now
-  pub device : result ≡ Err halts.Device → Rose before now
-  pub kept : (result ≡ Err halts.Device → ⊥) → now ≡ before
+-- a part of the walk that tests nothing: it reads so often at most, and halts only where the device fails
+pub record Asks {T : Type 0} (most : ℕ) (old new : Outside) (result : Result T Halt) : Type 0 where
+  pub reads : JustReads 0 most old new
+  pub cause : HasCause old.dev_faults new.dev_faults result
+  pub device : OnErr result (result ≡ Err halts.Device)

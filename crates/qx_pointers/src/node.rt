@@ -6,10 +6,9 @@ ghost use Rattle.qx_nodes.specs.BlockMap.{BlockMap};
 ghost use Rattle.qx_nodes.specs.Content.{levels_fit, root_fits};
 ghost use Rattle.qx_nodes.specs.Visits.{visits_of};
 ghost use Rattle.qx_view.specs.Walk.{node_tests};
-ghost use Rattle.qx_pointers.specs.Halts.{IsCaused};
-ghost use Rattle.qx_pointers.specs.Marks.{GoesThrough};
+ghost use Rattle.qx_pointers.specs.Marks.{Follows, GoesThrough};
 ghost use Rattle.qx_pointers.specs.Parts.{IsPlaced, IsWhole, joined, kept_leaves, nothing};
-ghost use Rattle.qx_pointers.specs.Shown.{Fits, JustReads, Shows};
+ghost use Rattle.qx_pointers.specs.Shown.{Fits, Shows};
 
 use crate::pointers::{Position, visit_each};
 use crate::{Halt, Shape};
@@ -128,10 +127,8 @@ pub fn walk_node<D: Dev>(
     ensures bounded { OnOk result (IsTrue visitor.now.bounded → node.now.size ≤ visitor.now.shape.count * visitor.now.shape.blocksize) }
     ensures placed { OnOk result (All (IsPlaced visitor.now.shape node.now) leaves.new.items) }
     ensures end { IfOk result (λ part. IfSome part.end (λ block. block < visitor.now.shape.count)) }
-    ensures limit { limit_of met.new ≡ limit_of met.old }
-    ensures fits { Fits visitor.now.shape (D.outside host.new) }
-    ensures reads { JustReads (D.outside host.old) (D.outside host.new) }
-    ensures cause { IsCaused (D.outside host.old).dev_faults (D.outside host.new).dev_faults result }
+    ensures follows { Follows met.old met.new [] leaves.new.items
+        (D.outside host.old) (D.outside host.new) result }
 {
     if !visitor.fits(node) {
         return Err(Halt::Finding(Finding {

@@ -1,6 +1,6 @@
 //! The pointers below a node, or below a block of it.
-ghost use Rattle.std.specs.Prelude.{◌≡◌, ◌<◌, ◌≤◌, ◌+◌, ◌*◌, ◌^◌, ◌∷◌, ◌++◌, [], ℕ, All, IfErr, IfOk, IfSome, OnOk, length, nat_lt};
-ghost use Rattle.qx_blockset.specs.Members.{limit_of};
+ghost use Rattle.std.specs.Prelude.{◌≡◌, ◌≢◌, ◌<◌, ◌≤◌, ◌+◌, ◌*◌, ◌^◌, ◌∷◌, ◌++◌, [], All, Err, IfErr, IfOk, IfSome, OnErr, OnOk, length, nat_lt};
+ghost use Rattle.qx_blockset.specs.Members.{count_of, limit_of};
 ghost use Rattle.qx_geom.specs.Pointer.{per_block};
 ghost use Rattle.qx_nodes.specs.BlockMap.{BlockMap};
 ghost use Rattle.qx_nodes.specs.Visits.{visits_under};
@@ -8,11 +8,10 @@ ghost use Rattle.qx_nodes.specs.ForeignNodes.{is_stray_under};
 ghost use Rattle.qx_view.specs.declared.findings.Code.TheVariants as codes;
 ghost use Rattle.qx_view.specs.Walk.{Test, Tested, Met};
 ghost use Rattle.qx_pointers.specs.declared.halt.Halt.TheVariants as halts;
-ghost use Rattle.qx_pointers.specs.Halts.{IsCaused};
-ghost use Rattle.qx_pointers.specs.Marks.{GoesThrough};
+ghost use Rattle.qx_pointers.specs.Marks.{Follows, GoesThrough};
 ghost use Rattle.qx_pointers.specs.Parts.{IsLeafOf, has_bare_under, kept_leaves, leaf_at, leaf_part};
 ghost use Rattle.qx_pointers.specs.Passage.{Sees, bare_beside, strays_beside, visits_beside};
-ghost use Rattle.qx_pointers.specs.Shown.{Fits, JustReads, Shows};
+ghost use Rattle.qx_pointers.specs.Shown.{Fits, Shows};
 
 use crate::reading::read_pointers;
 use crate::{Halt, LeafPlace, Part, Visitor};
@@ -59,10 +58,8 @@ pub(crate) fn visit_each<D: Dev>(
     ensures few { IfOk result (λ part. part.leaves ≤ length blocks.now * first.span) }
     ensures placed { OnOk result (All (IsLeafOf visitor.now.shape.count last) leaves.new.items) }
     ensures end { IfOk result (λ part. IfSome part.end (λ block. block < visitor.now.shape.count)) }
-    ensures limit { limit_of met.new ≡ limit_of met.old }
-    ensures fits { Fits visitor.now.shape (D.outside host.new) }
-    ensures reads { JustReads (D.outside host.old) (D.outside host.new) }
-    ensures cause { IsCaused (D.outside host.old).dev_faults (D.outside host.new).dev_faults result }
+    ensures follows { Follows met.old met.new leaves.old.items leaves.new.items
+        (D.outside host.old) (D.outside host.new) result }
 {
     let mut all = Part::nothing();
     for (place, block) in blocks.iter().enumerate() {
@@ -105,10 +102,8 @@ fn visit<D: Dev>(
     ensures few { IfOk result (λ part. part.leaves ≤ position.span) }
     ensures placed { OnOk result (All (IsLeafOf visitor.now.shape.count last) leaves.new.items) }
     ensures end { IfOk result (λ part. IfSome part.end (λ block. block < visitor.now.shape.count)) }
-    ensures limit { limit_of met.new ≡ limit_of met.old }
-    ensures fits { Fits visitor.now.shape (D.outside host.new) }
-    ensures reads { JustReads (D.outside host.old) (D.outside host.new) }
-    ensures cause { IsCaused (D.outside host.old).dev_faults (D.outside host.new).dev_faults result }
+    ensures follows { Follows met.old met.new leaves.old.items leaves.new.items
+        (D.outside host.old) (D.outside host.new) result }
 {
     if block == ABSENT {
         return Ok(Part::nothing());
@@ -145,7 +140,9 @@ fn mark(visitor: &Visitor, block: u32, met: &mut BlockSet) -> Result<(), Halt>
     ensures tests { GoesThrough (Tested codes.Pointer visitor.now.inode block (nat_lt block visitor.now.shape.count) ∷ Met visitor.now.inode block ∷ []) result met.old met.new }
     ensures below { OnOk result (block < visitor.now.shape.count) }
     ensures limit { limit_of met.new ≡ limit_of met.old }
-    ensures cause { (faults : ℕ) → IsCaused faults faults result }
+    ensures one { OnOk result (count_of met.new ≡ count_of met.old + 1) }
+    ensures none { OnErr result (count_of met.new ≡ count_of met.old) }
+    ensures no_fault { result ≢ Err halts.Device }
 {
     if block >= visitor.shape.count {
         return Err(Halt::Finding(Finding {
@@ -179,6 +176,7 @@ fn keep(
     ensures part { IfOk result (λ part. part ≡ leaf_part last (leaf_at index block)) }
     ensures leaves { OnOk result (leaves.new.items ≡ leaves.old.items ++ kept_leaves visitor.now.keeps (leaf_at index block ∷ [])) }
     ensures placed { OnOk result (All (IsLeafOf visitor.now.shape.count last) leaves.new.items) }
+    ensures one { length leaves.new.items ≤ length leaves.old.items + 1 }
     ensures end { IfOk result (λ part. IfSome part.end (λ end. end < visitor.now.shape.count)) }
     ensures memory { IfErr result (λ halt. halt ≡ halts.NoMemory) }
 {

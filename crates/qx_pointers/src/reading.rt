@@ -4,8 +4,7 @@ ghost use Rattle.qx_geom.specs.Layout.{blocks_begin};
 ghost use Rattle.qx_geom.specs.Lists.{each_below};
 ghost use Rattle.qx_geom.specs.Pointer.{per_block};
 ghost use Rattle.qx_nodes.specs.BlockMap.{BlockMap, word};
-ghost use Rattle.qx_outside.specs.Causes.{HasCause};
-ghost use Rattle.qx_pointers.specs.Shown.{Fits, HasBlocks, JustReads, Shows};
+ghost use Rattle.qx_pointers.specs.Shown.{Fits, HasBlocks, ReadsOnce, Shows};
 
 use crate::Shape;
 use qx_fields::get32s;
@@ -24,9 +23,7 @@ pub fn read_block<D: Dev>(
     requires fits { Fits shape (D.outside host.old) }
     ensures bytes { (m : BlockMap) → Shows shape (D.outside host.new) m → OnOk result (into.new ≡ m.bytes block) }
     ensures long { length into.new ≡ length into.old }
-    ensures fits { Fits shape (D.outside host.new) }
-    ensures reads { JustReads (D.outside host.old) (D.outside host.new) }
-    ensures cause { HasCause (D.outside host.old).dev_faults (D.outside host.new).dev_faults result }
+    ensures looks { ReadsOnce (D.outside host.old) (D.outside host.new) result }
 {
     read_block_from(host, shape, block, 0, into)
 }
@@ -44,9 +41,7 @@ pub fn read_block_from<D: Dev>(
     requires fits { Fits shape (D.outside host.old) }
     ensures bytes { (m : BlockMap) → Shows shape (D.outside host.new) m → OnOk result (into.new ≡ drop from (m.bytes block)) }
     ensures long { length into.new ≡ length into.old }
-    ensures fits { Fits shape (D.outside host.new) }
-    ensures reads { JustReads (D.outside host.old) (D.outside host.new) }
-    ensures cause { HasCause (D.outside host.old).dev_faults (D.outside host.new).dev_faults result }
+    ensures looks { ReadsOnce (D.outside host.old) (D.outside host.new) result }
 {
     let at = place_of(shape, block) + from as u64;
     host.read_at(at, into)
@@ -64,9 +59,7 @@ pub fn read_blocks<D: Dev>(
     requires fits { Fits shape (D.outside host.old) }
     ensures bytes { (m : BlockMap) → Shows shape (D.outside host.new) m → OnOk result (HasBlocks m first into.new) }
     ensures long { length into.new ≡ length into.old }
-    ensures fits { Fits shape (D.outside host.new) }
-    ensures reads { JustReads (D.outside host.old) (D.outside host.new) }
-    ensures cause { HasCause (D.outside host.old).dev_faults (D.outside host.new).dev_faults result }
+    ensures looks { ReadsOnce (D.outside host.old) (D.outside host.new) result }
 {
     host.read_at(place_of(shape, first), into)
 }
@@ -91,9 +84,7 @@ pub(crate) fn read_pointers<D: Dev>(
     ensures pointers { (m : BlockMap) → Shows shape (D.outside host.new) m
         → OnOk result (into.new ≡ each_below (per_block shape.blocksize) (λ w. word m block w)) }
     ensures long { length into.new ≡ length into.old }
-    ensures fits { Fits shape (D.outside host.new) }
-    ensures reads { JustReads (D.outside host.old) (D.outside host.new) }
-    ensures cause { HasCause (D.outside host.old).dev_faults (D.outside host.new).dev_faults result }
+    ensures looks { ReadsOnce (D.outside host.old) (D.outside host.new) result }
 {
     let mut buffer = [0; 4096];
     let bytes = &mut buffer[0..shape.blocksize as usize];

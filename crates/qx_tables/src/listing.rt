@@ -55,6 +55,7 @@ impl Listing {
         ensures listing { (places : ℕ) → IsListing places self.old → IsListing places self.new }
         ensures inode { (places : ℕ) → IsListing places self.old → IfSome result (λ q. (0 < q.inode) × (q.inode ≤ places)) }
         ensures next { IfSome result (λ q. self.new.next ≡ self.old.next + 1) }
+        ensures last { IfNone result (self.new.next ≡ self.old.next) }
 
         // All that were listed stay so.
         ensures queue { self.new.queue.items ≡ self.old.queue.items }

@@ -29,9 +29,9 @@ impl LongNames {
     ghost use Rattle.qx_nodes.specs.BlockMap.{BlockMap};
     ghost use Rattle.qx_view.specs.Images.{long_name};
     ghost use Rattle.qx_pointers.specs.declared.halt.Halt.TheVariants as halts;
-    ghost use Rattle.qx_pointers.specs.Halts.{IsCaused};
+    ghost use Rattle.qx_pointers.specs.Halts.{Asks};
     ghost use Rattle.qx_pointers.specs.Parts.{IsPlaced};
-    ghost use Rattle.qx_pointers.specs.Shown.{Fits, JustReads, Shows};
+    ghost use Rattle.qx_pointers.specs.Shown.{Fits, Shows};
     ghost use Rattle.qx_tables.specs.Tables.{AreInside, AreLeaves, HoldsNames, IsPlaceOf, bad_number, numbers_in};
 
     /// The leaves of a Longfile, none of them named yet.
@@ -75,10 +75,7 @@ impl LongNames {
         requires fits { Fits shape (D.outside host.old) }
         ensures name { (m : BlockMap) (longfile : node) (numbers : List ℕ) → Shows shape (D.outside host.new) m → HoldsNames m longfile numbers self.now
             → IfOk result (λ name. option_copied name ≡ long_name m longfile number) }
-        ensures fits { Fits shape (D.outside host.new) }
-        ensures reads { JustReads (D.outside host.old) (D.outside host.new) }
-        ensures device { OnErr result (result ≡ Err halts.Device) }
-        ensures cause { IsCaused (D.outside host.old).dev_faults (D.outside host.new).dev_faults result }
+        ensures asks { Asks 1 (D.outside host.old) (D.outside host.new) result }
     {
         let Some(place) = self.place(number) else {
             return Ok(None);

@@ -29,10 +29,10 @@ impl InodeTable {
     ghost use Rattle.qx_view.specs.Images.{inode_bytes, inode_of, places_in};
     ghost use Rattle.qx_view.specs.Sound.{are_zero, has_tail};
     ghost use Rattle.qx_view.specs.declared.findings.Finding.{Finding};
-    ghost use Rattle.qx_outside.specs.Causes.{HasCause};
-    ghost use Rattle.qx_pointers.specs.Halts.{HaltsAt, IsCaused};
+    ghost use Rattle.qx_pointers.specs.declared.halt.Halt.TheVariants as halts;
+    ghost use Rattle.qx_pointers.specs.Halts.{HaltsAt};
     ghost use Rattle.qx_pointers.specs.Parts.{IsPlaced};
-    ghost use Rattle.qx_pointers.specs.Shown.{Fits, JustReads, Shows};
+    ghost use Rattle.qx_pointers.specs.Shown.{Fits, Looks, ReadsOnce, Shows};
     ghost use Rattle.qx_tables.specs.Tables.{AreLeaves, HoldsInodes, IsApart, leaf_range, places_of};
 
     /// Reads the leaves of the Inode tree.
@@ -48,9 +48,7 @@ impl InodeTable {
         requires fits { Fits shape (D.outside host.old) }
         ensures holds { (m : BlockMap) → Shows shape (D.outside host.new) m → AreLeaves m inodes.now leaves.now → IfOk result (HoldsInodes m inodes.now) }
         ensures places { IfOk result (λ table. places_of table ≡ places_in inodes.now) }
-        ensures fits { Fits shape (D.outside host.new) }
-        ensures reads { JustReads (D.outside host.old) (D.outside host.new) }
-        ensures cause { IsCaused (D.outside host.old).dev_faults (D.outside host.new).dev_faults result }
+        ensures looks { Looks halts.Device 0 (length leaves.now) (D.outside host.old) (D.outside host.new) result }
 
         // An Err is no finding.
         ensures halts { (f : Option Finding) → IfErr result (HaltsAt f) }
@@ -137,9 +135,7 @@ impl InodeTable {
             → OnOk result ((k : ℕ) → k < count → leaf_range shape.blocksize bytes.new (first.index + k) ≡ m.bytes (first.block + k)) }
         ensures others { (i : ℕ) → IsApart first.index count i → leaf_range shape.blocksize bytes.new i ≡ leaf_range shape.blocksize bytes.old i }
         ensures long { length bytes.new ≡ length bytes.old }
-        ensures fits { Fits shape (D.outside host.new) }
-        ensures reads { JustReads (D.outside host.old) (D.outside host.new) }
-        ensures cause { HasCause (D.outside host.old).dev_faults (D.outside host.new).dev_faults result }
+        ensures looks { ReadsOnce (D.outside host.old) (D.outside host.new) result }
     {
         let size = shape.blocksize as usize;
         let at = first.index as usize * size;

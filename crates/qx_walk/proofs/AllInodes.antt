@@ -20,9 +20,9 @@ use Rattle.qx_walk.proofs.Underway.{IsUnderway, fails_there, goes_on, inodes_app
 use Rattle.qx_pointers.specs.declared.halt.Halt.{Halt}
 use Rattle.qx_pointers.specs.declared.halt.Halt.TheVariants as halts
 use Rattle.qx_tables.specs.declared.listing.Queued.{Queued}
-use Rattle.qx_walk.specs.declared.notes.Notes.{Notes}
-use Rattle.qx_walk.specs.declared.seen.Seen.{Seen}
-use Rattle.qx_walk.specs.declared.way.Way.{Way}
+use Rattle.qx_walk.specs.declared.state.Notes.{Notes}
+use Rattle.qx_walk.specs.declared.state.Seen.{Seen}
+use Rattle.qx_walk.specs.declared.state.Way.{Way}
 use Rattle.qx_pointers.specs.Halts.{HaltsAt}
 use Rattle.qx_walk.specs.Inodes.{Begins, Done, Ends, Remembers, WalksInode, done_above, numbers_of, taken_with, with_inode}
 use Rattle.qx_walk.specs.Rows.{begins_with_dots}

@@ -16,7 +16,7 @@ use Rattle.qx_view.proofs.ActiveHalf.{IsGeometryOf, written_is}
 use Rattle.qx_view.specs.Images.{inode_places, main_roots}
 use Rattle.qx_view.specs.Sound.{bad_long_name, bit_differs, fails_dots, fails_inodes, fails_nodes, first_some, is_laid_out, outer_blocks, reason_at, reason_with, written_geometry}
 use Rattle.qx_view.specs.Walk.{walked_inodes}
-use Rattle.qx_walk.specs.declared.walked.Walked.{Walked}
+use Rattle.qx_walk.specs.declared.state.Walked.{Walked}
 use Rattle.qx_walk.specs.Bitmaps.{is_wrong_bit}
 use Rattle.qx_walk.specs.Layouts.{has_block_of_half, is_laid_out_by, later_reason}
 use Rattle.qx_walk.specs.Trees.{IsWalked}

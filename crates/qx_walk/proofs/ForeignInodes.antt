@@ -7,7 +7,7 @@ use Rattle.qx_nodes.specs.BlockMap.{BlockMap}
 use Rattle.qx_view.specs.Images.{Roots, inode_bytes, inode_places}
 use Rattle.qx_view.specs.Sound.{are_zero, fails_inodes, is_written_inode}
 use Rattle.qx_view.specs.Walk.{walked_inodes}
-use Rattle.qx_walk.specs.declared.walked.Walked.{Walked}
+use Rattle.qx_walk.specs.declared.state.Walked.{Walked}
 use Rattle.qx_tables.specs.Tables.{places_of}
 use Rattle.qx_walk.specs.Trees.{IsWalked}
 use Rattle.qx_walk.proofs.FirstNumbers.{first_is}

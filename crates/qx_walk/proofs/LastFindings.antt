@@ -16,7 +16,7 @@ use Rattle.qx_view.proofs.ActiveHalf.{IsGeometryOf, halves_right, written_is}
 use Rattle.qx_view.specs.Images.{main_roots}
 use Rattle.qx_view.specs.Sound.{are_counts_right, last_with, outer_blocks, reason_with, tail_finding, written_geometry}
 use Rattle.qx_view.specs.Walk.{walked_inodes}
-use Rattle.qx_walk.specs.declared.walked.Walked.{Walked}
+use Rattle.qx_walk.specs.declared.state.Walked.{Walked}
 use Rattle.qx_walk.specs.Layouts.{has_right_counts}
 use Rattle.qx_walk.specs.Trees.{IsWalked}
 use Rattle.qx_walk.proofs.OtherHalf.{met_count}

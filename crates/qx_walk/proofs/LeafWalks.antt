@@ -16,8 +16,8 @@ use Rattle.qx_walk.proofs.LeafRecords.{leaf_block, leaf_record}
 use Rattle.qx_walk.proofs.RowsInOrder.{walks_halts, walks_more, walks_one}
 use Rattle.qx_pointers.specs.declared.halt.Halt.{Halt}
 use Rattle.qx_pointers.specs.declared.node.LeafPlace.{LeafPlace}
-use Rattle.qx_walk.specs.declared.seen.Directory.{Directory}
-use Rattle.qx_walk.specs.declared.seen.Seen.{Seen}
+use Rattle.qx_walk.specs.declared.state.Directory.{Directory}
+use Rattle.qx_walk.specs.declared.state.Seen.{Seen}
 use Rattle.qx_walk.specs.Kept.{Kept, with_records}
 use Rattle.qx_walk.specs.Rows.{WalksRecord, WalksThrough}
 use Rattle.qx_tables.specs.Tables.{AreLeaves}

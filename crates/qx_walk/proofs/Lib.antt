@@ -17,8 +17,11 @@ pub mod PointerWords
 pub mod ReadAreas
 pub mod RowTests
 pub mod RowsInOrder
+pub mod StepsInOrder
 pub mod Surveyed
+pub mod SurveyReads
 pub mod TestsAbove
+pub mod TreeReads
 pub mod Underway
 pub mod Verdicts
 pub mod WalkedInodes

@@ -12,7 +12,7 @@ use Rattle.qx_nodes.specs.ForeignNodes.{is_foreign_node}
 use Rattle.qx_walk.proofs.LastLeaf.{tail_is}
 use Rattle.qx_pointers.specs.declared.node.Part.{Part}
 use Rattle.qx_pointers.specs.declared.source.Shape.{Shape}
-use Rattle.qx_walk.specs.declared.way.Way.{Way}
+use Rattle.qx_walk.specs.declared.state.Way.{Way}
 use Rattle.qx_walk.specs.Inodes.{WalksNode, own_tests, tail_at}
 use Rattle.qx_pointers.specs.Marks.{GoesThrough, Marks}
 use Rattle.qx_pointers.specs.Parts.{IsWhole, kept_leaves}

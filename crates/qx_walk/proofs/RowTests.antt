@@ -16,7 +16,7 @@ use Rattle.qx_walk.proofs.KeptLists.{one_listed}
 use Rattle.qx_walk.proofs.RowsInOrder.{listed_same}
 use Rattle.qx_pointers.specs.declared.halt.Halt.{Halt}
 use Rattle.qx_pointers.specs.declared.halt.Halt.TheVariants as halts
-use Rattle.qx_walk.specs.declared.seen.Seen.{Seen}
+use Rattle.qx_walk.specs.declared.state.Seen.{Seen}
 use Rattle.qx_pointers.specs.Halts.{HaltsAt}
 use Rattle.qx_walk.specs.Kept.{Kept, with_row}
 use Rattle.qx_walk.specs.Rows.{Holds, WalksRecord, WalksRow}

@@ -1,5 +1,5 @@
 -- A directory's records, gone through one after another.
-use Rattle.std.proofs.Common.{◌≡◌, ℕ, List, [], ◌∷◌, ◌++◌, refl, ap, sym, ◌∙◌, subst, arith}
+use Rattle.std.proofs.Common.{◌≡◌, ℕ, List, [], ◌∷◌, ◌++◌, refl, ap, sym, ◌∙◌, subst}
 use Rattle.std.specs.Prelude.{Bool, false, IsTrue, Option, None, Result, Ok, Err, OnOk, IfOk, count_by, ◌==◌, ◌%◌, map, min}
 use Rattle.std.proofs.lemmas.List.{append-nil}
 use Rattle.std.proofs.lemmas.Result.{on_ok_weaker}
@@ -14,14 +14,12 @@ use Rattle.qx_view.specs.Sound.{is_foreign_directory, long_number, numbers_named
 use Rattle.qx_view.specs.Walk.{first_failing, gone_through, inodes_named_in, listed_after, named_inode, new_ones, record_tests, records_tests}
 use Rattle.qx_pointers.proofs.PassedTests.{halts_more}
 use Rattle.qx_walk.proofs.KeptLists.{HaveSame, all_counted, all_listed, all_queued, tests_append, with_append}
-use Rattle.qx_outside.specs.Causes.{Rose}
 use Rattle.qx_pointers.specs.declared.halt.Halt.{Halt}
-use Rattle.qx_pointers.specs.declared.halt.Halt.TheVariants as halts
 use Rattle.qx_tables.specs.declared.listing.Listing.{Listing}
 use Rattle.qx_tables.specs.declared.long_names.LongNames.{LongNames}
-use Rattle.qx_walk.specs.declared.seen.Directory.{Directory}
-use Rattle.qx_walk.specs.declared.seen.Seen.{Seen}
-use Rattle.qx_pointers.specs.Halts.{Answers, HaltsAt, IsCaused}
+use Rattle.qx_walk.specs.declared.state.Directory.{Directory}
+use Rattle.qx_walk.specs.declared.state.Seen.{Seen}
+use Rattle.qx_pointers.specs.Halts.{Answers, HaltsAt}
 use Rattle.qx_walk.specs.Kept.{Kept, with_records}
 use Rattle.qx_walk.specs.Rows.{Holds, WalksRecord, WalksRecords, WalksThrough, begins_with_dots}
 use Rattle.qx_tables.specs.Tables.{HasListed, HoldsNames}
@@ -31,28 +29,6 @@ use Rattle.qx_tables.specs.Tables.{HasListed, HoldsNames}
 -- where the first part has none, it is the second part's
 answers_later : {T : Type 0} (f g : Option Finding) (result : Result T Halt) → f ≡ None → Answers g result → Answers (or_else f g) result
 answers_later {T = T} f g result e a = subst (λ z. Answers {T = T} (or_else z g) result) (sym e) a
-
--- ---- halts
-
--- a halt, whatever an Ok would hold
-abbrev halted : {T : Type 0} → Halt → Result T Halt
-halted halt = Err halt
-
--- halts that are the same are so
-same_halt : {T U : Type 0} (x y : Halt) → halted {T = T} x ≡ halted {T = T} y → halted {T = U} x ≡ halted {T = U} y
-same_halt {U = U} x y e = let same : x ≡ y = cc in ap (halted {T = U}) same
-
--- a halt that is explained from a count of faults on is explained from one that is the same
-pub caused_halt : {T U : Type 0} (a b c : ℕ) (halt : Halt) → b ≡ a → IsCaused {T = U} b c (Err halt) → IsCaused {T = T} a c (Err halt)
-caused_halt {T = T} {U = U} a b c halt same p = record {
-  later = omega (arith, same, p.later);
-  device = λ e. subst (λ n. Rose n c) same (p.device (same_halt {T = T} {U = U} halt halts.Device e));
-  kept = λ no. p.kept (λ e. no (same_halt {T = U} {U = T} halt halts.Device e)) ∙ same;
-}
-
--- an Ok where no fault was counted
-pub caused_none : {T : Type 0} (a b : ℕ) (x : T) → b ≡ a → IsCaused {T = T} a b (Ok x)
-caused_none a b x same = record { later = omega (arith, same); device = λ e. absurd (cc); kept = λ _. same }
 
 -- ---- records end to end
 

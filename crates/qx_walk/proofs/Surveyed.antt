@@ -24,14 +24,14 @@ use Rattle.qx_view.specs.Usage.{met_blocks}
 use Rattle.qx_view.specs.Walk.{finding_of}
 use Rattle.qx_walk.proofs.OuterBlocks.{count_marked, met_counted, met_differ}
 use Rattle.qx_walk.proofs.Verdicts.{clean, foreign, found, found_last}
-use Rattle.qx_walk.specs.declared.walked.Walked.{Walked}
+use Rattle.qx_walk.specs.declared.state.Walked.{Walked}
 use Rattle.qx_walk.specs.Layouts.{IsShapeOf}
 use Rattle.qx_walk.specs.Surveys.{IsFault, IsSurvey, fault_of, free_by, free_if, survey_by, verdict_if}
 use Rattle.qx_walk.specs.Trees.{IsWalked}
 
 -- a device that still tells its bytes shows the blocks of the active superblock's volume
-pub shown_blocks : (shape : Shape) (s : Superblock) (img : List ℕ) (old new : Outside)
-    → IsShapeOf s shape → JustReads old new → IsTrue new.tells → bytes_of old.history ≡ img → Shows shape new (image_blocks img s)
+pub shown_blocks : {from to : ℕ} (shape : Shape) (s : Superblock) (img : List ℕ) (old new : Outside)
+    → IsShapeOf s shape → JustReads from to old new → IsTrue new.tells → bytes_of old.history ≡ img → Shows shape new (image_blocks img s)
 shown_blocks shape s img old new is reads told bytes =
     let same : bytes_of new.history ≡ img = ap (λ h. bytes_of h) (reads.same told) ∙ bytes in
     record {

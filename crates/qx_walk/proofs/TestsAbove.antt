@@ -18,14 +18,12 @@ use Rattle.qx_nodes.specs.ForeignNodes.{is_foreign_node}
 use Rattle.qx_view.specs.Sound.{fails_dots, fails_nodes, fails_tail, has_tail}
 use Rattle.qx_view.specs.Walk.{Test, Tested, finding_of, first_failing, inode_tests, is_directory_inode, root_tests, taken_of, top_tests}
 use Rattle.qx_pointers.proofs.PassedTests.{goes_fails, goes_then}
-use Rattle.qx_outside.specs.Causes.{Rose}
 use Rattle.qx_pointers.specs.declared.halt.Halt.{Halt}
-use Rattle.qx_pointers.specs.declared.halt.Halt.TheVariants as halts
-use Rattle.qx_walk.specs.declared.notes.Notes.{Notes}
+use Rattle.qx_walk.specs.declared.state.Notes.{Notes}
 use Rattle.qx_pointers.specs.declared.node.LeafPlace.{LeafPlace}
-use Rattle.qx_walk.specs.declared.seen.Seen.{Seen}
-use Rattle.qx_walk.specs.declared.way.Way.{Way}
-use Rattle.qx_pointers.specs.Halts.{HaltsAt, IsCaused}
+use Rattle.qx_walk.specs.declared.state.Seen.{Seen}
+use Rattle.qx_walk.specs.declared.state.Way.{Way}
+use Rattle.qx_pointers.specs.Halts.{HaltsAt}
 use Rattle.qx_walk.specs.Inodes.{Begins, tests_above}
 use Rattle.qx_pointers.specs.Marks.{GoesThrough, Marks}
 use Rattle.qx_pointers.specs.Parts.{kept_leaves}
@@ -47,16 +45,6 @@ pub root_leaves : {T : Type 0} (m : BlockMap) (node : Root) (x : T) (a b : Membe
 root_leaves m node x a b met leaves marks tests is =
     let passes : NodePasses m node (root_fits m node) = node_passes m 0 node (root_fits m node) (record { met = met; none = tests.answer met marks }) in
     record { are = is; fits = and_left (levels_fit m node) _ passes.fit; undamaged = passes.undamaged }
-
--- an Err says one halt
-one_halt : {T : Type 0} (halt : Halt) (r : Result T Halt) → r ≡ Err halt → r ≡ Err halts.Device → halt ≡ halts.Device
-one_halt halts.Device r a b = refl
-one_halt (halts.Finding found) r a b = absurd (cc (a, b))
-one_halt halts.NoMemory r a b = absurd (cc (a, b))
-
--- a test that fails is no fault, whatever came before
-pub caused_by_test : {T U : Type 0} (n k : ℕ) (halt : Halt) → k ≡ n → ((faults : ℕ) → IsCaused {T = U} faults faults (Err halt)) → IsCaused {T = T} n k (Err halt)
-caused_by_test n k halt same p = record { later = omega (arith, same); device = λ e. subst (λ a. Rose a k) same ((p k).device (ap (λ z. Err z) (one_halt halt _ refl e))); kept = λ _. same }
 
 module _ (m : BlockMap) (r : Roots) where
   -- the tests of the Inode tree, of the Longfile, of further root nodes, and of all inodes

@@ -28,12 +28,12 @@ use Rattle.qx_walk.proofs.LeastNotes.{first_more}
 use Rattle.qx_pointers.proofs.PassedTests.{gone-append, halts_more}
 use Rattle.qx_pointers.specs.declared.halt.Halt.{Halt}
 use Rattle.qx_pointers.specs.declared.halt.Halt.TheVariants as halts
-use Rattle.qx_walk.specs.declared.notes.Notes.{Notes}
+use Rattle.qx_walk.specs.declared.state.Notes.{Notes}
 use Rattle.qx_pointers.specs.declared.node.Part.{Part}
-use Rattle.qx_walk.specs.declared.seen.Directory.{Directory}
-use Rattle.qx_walk.specs.declared.seen.Seen.{Seen}
+use Rattle.qx_walk.specs.declared.state.Directory.{Directory}
+use Rattle.qx_walk.specs.declared.state.Seen.{Seen}
 use Rattle.qx_tables.specs.declared.table.InodeTable.{InodeTable}
-use Rattle.qx_walk.specs.declared.way.Way.{Way}
+use Rattle.qx_walk.specs.declared.state.Way.{Way}
 use Rattle.qx_pointers.specs.Halts.{HaltsAt}
 use Rattle.qx_walk.specs.Inodes.{Done, Remembers, WalksInode, WalksNode, own_tests, taken_with, with_inode}
 use Rattle.qx_pointers.specs.Marks.{Marks}

@@ -12,8 +12,8 @@ use Rattle.qx_view.specs.Usage.{met_blocks}
 use Rattle.qx_view.specs.Walk.{Taken, Test, finding_of, first_failing, gone_through, inode_root, inode_tests, is_directory_inode, listed_after, named_inodes, new_ones, node_tests, root_tests, top_tests, walked_inodes}
 use Rattle.qx_pointers.specs.declared.halt.Halt.{Halt}
 use Rattle.qx_pointers.specs.declared.node.Part.{Part}
-use Rattle.qx_walk.specs.declared.seen.Seen.{Seen}
-use Rattle.qx_walk.specs.declared.way.Way.{Way}
+use Rattle.qx_walk.specs.declared.state.Seen.{Seen}
+use Rattle.qx_walk.specs.declared.state.Way.{Way}
 use Rattle.qx_pointers.specs.Halts.{Answers}
 use Rattle.qx_pointers.specs.Marks.{Marks}
 use Rattle.qx_pointers.specs.Parts.{IsWhole}

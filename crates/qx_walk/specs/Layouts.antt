@@ -1,7 +1,7 @@
 -- What is said of a volume's layout.
 use Rattle.std.specs.Prelude.{◌≡◌, ◌+◌, ◌*◌, ◌==◌, ◌&&◌, not, ℕ, Bool, List, [], ◌∷◌, Option}
 use Rattle.std.specs.List.{list_all, list_any, range_with_len}
-use Rattle.qx_blockset.specs.Members.{Members, count_of, has}
+use Rattle.qx_blockset.specs.Members.{Members, count_of, has, limit_of}
 use Rattle.qx_fields.specs.declared.order.Order.{Order}
 use Rattle.qx_fields.specs.Number.{field}
 use Rattle.qx_geom.specs.declared.system.SystemTree.{SystemTree}
@@ -12,13 +12,15 @@ use Rattle.qx_geom.specs.Layout.{IsGeometry, first_block, system_word_of, user_b
 use Rattle.qx_geom.specs.Lists.{each_below, first_below}
 use Rattle.qx_geom.specs.Pointer.{per_block}
 use Rattle.qx_nodes.specs.BlockMap.{BlockMap}
+use Rattle.qx_outside.specs.Outside.{Outside}
 use Rattle.qx_super.specs.Superblock.{Superblock}
 use Rattle.qx_view.specs.declared.reasons.Reason.TheVariants as reasons
 use Rattle.qx_view.specs.declared.reasons.Foreign.{Foreign as Why}
 use Rattle.qx_view.specs.Images.{Roots, inode_places}
 use Rattle.qx_view.specs.Sound.{bad_long_name, fails_dots, fails_inodes, fails_nodes, first_some, is_laid_out, reason_at}
 use Rattle.qx_pointers.specs.declared.source.Shape.{Shape}
-use Rattle.qx_walk.specs.declared.walked.Walked.{Walked}
+use Rattle.qx_walk.specs.declared.state.Walked.{Walked}
+use Rattle.qx_pointers.specs.Shown.{Fits}
 
 -- the shape is that of a superblock's volume
 pub record IsShapeOf (s : Superblock) (shape : Shape) : Type 0 where
@@ -37,6 +39,17 @@ pub record IsVolumeOf (shape : Shape) (g : Geometry) : Type 0 where
   pub volume : IsGeometry g
   pub blocksize : g.blocksize ≡ shape.blocksize
   pub count : g.num_blocks ≡ shape.count
+
+-- and the device has room for its blocks
+pub record IsVolumeOn (shape : Shape) (g : Geometry) (host : Outside) : Type 0 where
+  pub volume : IsVolumeOf shape g
+  pub fits : Fits shape host
+
+-- and these blocks of it were met
+pub record IsMetOn (shape : Shape) (g : Geometry) (met : Members) (host : Outside) : Type 0 where
+  pub volume : IsVolumeOf shape g
+  pub limit : limit_of met ≡ shape.count
+  pub fits : Fits shape host
 
 -- ---- the halves
 

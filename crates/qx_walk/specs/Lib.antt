@@ -7,6 +7,7 @@ pub use Rattle.qx_pointers.specs.Parts
 pub use Rattle.qx_view.specs.Walk
 pub mod Kept
 pub mod Rows
+pub mod Steps
 pub mod Trees
 pub mod Inodes
 pub mod Bitmaps

@@ -8,10 +8,10 @@ use Rattle.qx_records.specs.NameRecord.{RawRecord, Unused, Short, Long, Bad, raw
 use Rattle.qx_view.specs.Images.{Roots, all_records, raw_of}
 use Rattle.qx_view.specs.Sound.{is_foreign_directory, is_short, numbers_named_in}
 use Rattle.qx_view.specs.Walk.{Place, first_failing, inodes_named_in, listed_after, new_ones, record_tests, records_tests, row_tests}
-use Rattle.qx_walk.specs.declared.seen.RecordPlace.{RecordPlace}
+use Rattle.qx_walk.specs.declared.state.RecordPlace.{RecordPlace}
 use Rattle.qx_pointers.specs.declared.halt.Halt.{Halt}
-use Rattle.qx_walk.specs.declared.seen.Directory.{Directory}
-use Rattle.qx_walk.specs.declared.seen.Seen.{Seen}
+use Rattle.qx_walk.specs.declared.state.Directory.{Directory}
+use Rattle.qx_walk.specs.declared.state.Seen.{Seen}
 use Rattle.qx_pointers.specs.Halts.{Answers}
 use Rattle.qx_walk.specs.Kept.{Kept, with_record, with_records, with_row}
 use Rattle.qx_tables.specs.Tables.{HasListed, HasNames, HoldsNames}

@@ -16,7 +16,7 @@ use Rattle.qx_pointers.specs.declared.halt.Halt.{Halt}
 use Rattle.qx_pointers.specs.declared.halt.Halt.TheVariants as halts
 use Rattle.qx_pointers.specs.Marks.{Marks}
 use Rattle.qx_blockset.specs.Members.{count_of}
-use Rattle.qx_walk.specs.declared.walked.Walked.{Walked}
+use Rattle.qx_walk.specs.declared.state.Walked.{Walked}
 
 -- the verdict on an image with a tree, of this active area and superblock
 abbrev pub verdict_if : Which → Superblock → Option Why → Verdict

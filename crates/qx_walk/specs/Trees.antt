@@ -7,9 +7,9 @@ use Rattle.qx_view.specs.Images.{Roots, inode_places}
 use Rattle.qx_view.specs.Sound.{bad_long_name, fails_dots, fails_nodes, fails_tail}
 use Rattle.qx_view.specs.Usage.{met_blocks}
 use Rattle.qx_view.specs.Walk.{finding_of, walked_inodes}
-use Rattle.qx_walk.specs.declared.notes.Notes.{Notes}
-use Rattle.qx_walk.specs.declared.roots.RootNodes.{RootNodes}
-use Rattle.qx_walk.specs.declared.walked.Walked.{Walked}
+use Rattle.qx_walk.specs.declared.state.Notes.{Notes}
+use Rattle.qx_walk.specs.declared.state.RootNodes.{RootNodes}
+use Rattle.qx_walk.specs.declared.state.Walked.{Walked}
 use Rattle.qx_pointers.specs.Marks.{Marks}
 use Rattle.qx_tables.specs.Tables.{HoldsInodes, places_of}
 

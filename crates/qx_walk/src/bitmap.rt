@@ -1,15 +1,14 @@
 //! Whether the bitmap of a half is as this project writes it.
-ghost use Rattle.std.specs.Prelude.{◌≡◌, ◌<◌, ◌≤◌, ◌+◌, ◌*◌, ◌^◌, ◌==◌, ℕ, IfOk, IfSome, IfNone, length, IfErr, Option};
+ghost use Rattle.std.specs.Prelude.{◌≡◌, ◌<◌, ◌≤◌, ◌+◌, ◌*◌, ◌^◌, ◌==◌, ℕ, IfOk, IfSome, IfNone, length};
 ghost use Rattle.std.specs.Int.{bit_at};
 ghost use Rattle.qx_blockset.specs.Members.{limit_of};
 ghost use Rattle.qx_geom.specs.Layout.{IsGeometry};
 ghost use Rattle.qx_geom.specs.Lists.{first_below};
 ghost use Rattle.qx_nodes.specs.BlockMap.{BlockMap};
-ghost use Rattle.qx_pointers.specs.Halts.{HaltsAt, IsCaused};
-ghost use Rattle.qx_walk.specs.Layouts.{IsVolumeOf};
+ghost use Rattle.qx_pointers.specs.Halts.{Asks};
+ghost use Rattle.qx_walk.specs.Layouts.{IsMetOn};
 ghost use Rattle.qx_walk.specs.Bitmaps.{is_wrong_bit, is_wrong_in, IsFirst};
-ghost use Rattle.qx_pointers.specs.Shown.{Fits, JustReads, Shows};
-ghost use Rattle.qx_view.specs.declared.findings.Finding.{Finding};
+ghost use Rattle.qx_pointers.specs.Shown.{Shows};
 
 use qx_blockset::BlockSet;
 use qx_geom::{Geometry, Which};
@@ -25,15 +24,10 @@ pub(crate) fn first_wrong_bit<D: Dev>(
     geometry: &Geometry,
     met: &BlockSet,
 ) -> Result<Option<u64>, Halt>
-    requires volume { IsVolumeOf shape geometry.now }
-    requires met { limit_of met.now ≡ shape.count }
-    requires fits { Fits shape (D.outside host.old) }
+    requires met { IsMetOn shape geometry.now met.now (D.outside host.old) }
     ensures bit { (m : BlockMap) → Shows shape (D.outside host.new) m
         → IfOk result (λ at. at ≡ first_below (is_wrong_bit m geometry.now which met.now) (geometry.now.bitmap_leaves * m.size * 8)) }
-    ensures fits { Fits shape (D.outside host.new) }
-    ensures reads { JustReads (D.outside host.old) (D.outside host.new) }
-    ensures cause { IsCaused (D.outside host.old).dev_faults (D.outside host.new).dev_faults result }
-    ensures no_finding { (f : Option Finding) → IfErr result (HaltsAt f) }
+    ensures asks { Asks geometry.now.bitmap_leaves (D.outside host.old) (D.outside host.new) result }
 {
     let first = geometry.first_block(which);
     for leaf in 0..geometry.bitmap_leaves {
@@ -54,17 +48,12 @@ fn first_wrong_in_leaf<D: Dev>(
     block: u32,
     begin: u64,
 ) -> Result<Option<u64>, Halt>
-    requires volume { IsVolumeOf shape geometry.now }
-    requires met { limit_of met.now ≡ shape.count }
+    requires met { IsMetOn shape geometry.now met.now (D.outside host.old) }
     requires block { block < shape.count }
     requires begin { begin ≤ 2 ^ 50 }
-    requires fits { Fits shape (D.outside host.old) }
     ensures bit { (m : BlockMap) → Shows shape (D.outside host.new) m
         → IfOk result (IsFirst (is_wrong_in geometry.now met.now begin (m.bytes block)) (begin * 8) ((begin + shape.blocksize) * 8)) }
-    ensures fits { Fits shape (D.outside host.new) }
-    ensures reads { JustReads (D.outside host.old) (D.outside host.new) }
-    ensures cause { IsCaused (D.outside host.old).dev_faults (D.outside host.new).dev_faults result }
-    ensures no_finding { (f : Option Finding) → IfErr result (HaltsAt f) }
+    ensures asks { Asks 1 (D.outside host.old) (D.outside host.new) result }
 {
     let mut buffer = [0; 4096];
     let bytes = &mut buffer[0..shape.blocksize as usize];

@@ -14,12 +14,12 @@ ghost use Rattle.qx_view.specs.Reading.{is_plain};
 ghost use Rattle.qx_view.specs.Sound.{is_short as is_short_record};
 ghost use Rattle.qx_view.specs.Walk.{is_directory_kind};
 ghost use Rattle.qx_pointers.specs.declared.halt.Halt.TheVariants as halts;
-ghost use Rattle.qx_pointers.specs.Halts.{IsCaused};
 ghost use Rattle.qx_walk.specs.Kept.{Kept};
 ghost use Rattle.qx_pointers.specs.Parts.{IsPlaced};
 ghost use Rattle.qx_walk.specs.Rows.{Holds, NamesSome, WalksRecord, WalksRecords, WalksRow, WalksThrough, begins_with_dots, dots_in, record_place};
-ghost use Rattle.qx_pointers.specs.Shown.{Fits, JustReads, Shows};
-ghost use Rattle.qx_tables.specs.Tables.{AreInside, AreLeaves, HasListed, HoldsInodes, HoldsNames, IsListing, places_of};
+ghost use Rattle.qx_walk.specs.Steps.{IsReading, Lists, leaf_reads};
+ghost use Rattle.qx_pointers.specs.Shown.{Shows};
+ghost use Rattle.qx_tables.specs.Tables.{AreLeaves, HasListed, HoldsInodes, HoldsNames, IsListing, places_of};
 
 use crate::{Directory, Ground, RecordPlace, Seen};
 use qx_fields::Order;
@@ -39,20 +39,14 @@ pub fn walk_records<D: Dev>(
     seen: &mut Seen,
 ) -> Result<bool, Halt>
     requires placed { All (IsPlaced ground.now.shape directory.now.node) leaves.now }
-    requires inside { AreInside ground.now.shape.count seen.old.longs }
-    requires listing { IsListing (places_of ground.now.table) seen.old.listing }
-    requires fits { Fits ground.now.shape (D.outside host.old) }
+    requires reading { IsReading ground.now seen.old (D.outside host.old) }
     ensures walked { (m : BlockMap) (r : Roots) (queue : List (ℕ × ℕ)) (listed numbers : List ℕ) → Shows ground.now.shape (D.outside host.new) m
         → HoldsInodes m r.inodes ground.now.table → HoldsNames m r.longfile numbers seen.old.longs → HasListed queue listed seen.old.listing
         → AreLeaves m directory.now.node leaves.now → WalksRecords m r directory.now queue listed numbers result seen.new }
 
     // Whether the device tells or not.
-    ensures inside { AreInside ground.now.shape.count seen.new.longs }
-    ensures listing { IsListing (places_of ground.now.table) seen.new.listing }
-    ensures next { seen.new.listing.next ≡ seen.old.listing.next }
-    ensures fits { Fits ground.now.shape (D.outside host.new) }
-    ensures reads { JustReads (D.outside host.old) (D.outside host.new) }
-    ensures cause { IsCaused (D.outside host.old).dev_faults (D.outside host.new).dev_faults result }
+    ensures lists { Lists ground.now (length leaves.now * leaf_reads ground.now.shape) seen.old seen.new
+        (D.outside host.old) (D.outside host.new) result }
 {
     seen.names.clear();
     let mut dots = false;
@@ -72,21 +66,15 @@ fn walk_leaf<D: Dev>(
     seen: &mut Seen,
 ) -> Result<bool, Halt>
     requires placed { IsPlaced ground.now.shape directory.now.node leaf }
-    requires inside { AreInside ground.now.shape.count seen.old.longs }
-    requires listing { IsListing (places_of ground.now.table) seen.old.listing }
-    requires fits { Fits ground.now.shape (D.outside host.old) }
+    requires reading { IsReading ground.now seen.old (D.outside host.old) }
     ensures walked { (m : BlockMap) (r : Roots) (kept : Kept) → Shows ground.now.shape (D.outside host.new) m
         → HoldsInodes m r.inodes ground.now.table → Holds m r.longfile kept seen.old → leaf_of m directory.now.node leaf.index ≡ Block leaf.block
         → WalksThrough m r directory.now (leaf_records m directory.now.node leaf.index) kept result seen.new }
     ensures dots { (m : BlockMap) → Shows ground.now.shape (D.outside host.new) m → leaf_of m directory.now.node leaf.index ≡ Block leaf.block
         → leaf.index ≡ 0 → IfOk result (λ begins. begins ≡ begins_with_dots m directory.now.node) }
 
-    ensures inside { AreInside ground.now.shape.count seen.new.longs }
-    ensures listing { IsListing (places_of ground.now.table) seen.new.listing }
-    ensures next { seen.new.listing.next ≡ seen.old.listing.next }
-    ensures fits { Fits ground.now.shape (D.outside host.new) }
-    ensures reads { JustReads (D.outside host.old) (D.outside host.new) }
-    ensures cause { IsCaused (D.outside host.old).dev_faults (D.outside host.new).dev_faults result }
+    ensures lists { Lists ground.now (leaf_reads ground.now.shape) seen.old seen.new
+        (D.outside host.old) (D.outside host.new) result }
 {
     let mut buffer = [0; 4096];
     let block = &mut buffer[0..ground.shape.blocksize as usize];
@@ -139,19 +127,13 @@ fn walk_record<D: Dev>(
     seen: &mut Seen,
 ) -> Result<(), Halt>
     requires named { NamesSome (raw_of_slot slot) }
-    requires inside { AreInside ground.now.shape.count seen.old.longs }
-    requires listing { IsListing (places_of ground.now.table) seen.old.listing }
-    requires fits { Fits ground.now.shape (D.outside host.old) }
+    requires reading { IsReading ground.now seen.old (D.outside host.old) }
     ensures walked { (m : BlockMap) (r : Roots) (kept : Kept) → Shows ground.now.shape (D.outside host.new) m
         → HoldsInodes m r.inodes ground.now.table → Holds m r.longfile kept seen.old
         → WalksRecord m r (record_place at) (raw_of_slot slot.entry) kept result seen.new }
 
-    ensures inside { AreInside ground.now.shape.count seen.new.longs }
-    ensures listing { IsListing (places_of ground.now.table) seen.new.listing }
-    ensures next { seen.new.listing.next ≡ seen.old.listing.next }
-    ensures fits { Fits ground.now.shape (D.outside host.new) }
-    ensures reads { JustReads (D.outside host.old) (D.outside host.new) }
-    ensures cause { IsCaused (D.outside host.old).dev_faults (D.outside host.new).dev_faults result }
+    ensures lists { Lists ground.now 1 seen.old seen.new
+        (D.outside host.old) (D.outside host.new) result }
 {
     match slot {
         Slot::Unused => Ok(()),
@@ -172,19 +154,13 @@ fn walk_long<D: Dev>(
     seen: &mut Seen,
 ) -> Result<(), Halt>
     requires named { 0 < inode }
-    requires inside { AreInside ground.now.shape.count seen.old.longs }
-    requires listing { IsListing (places_of ground.now.table) seen.old.listing }
-    requires fits { Fits ground.now.shape (D.outside host.old) }
+    requires reading { IsReading ground.now seen.old (D.outside host.old) }
     ensures walked { (m : BlockMap) (r : Roots) (kept : Kept) → Shows ground.now.shape (D.outside host.new) m
         → HoldsInodes m r.inodes ground.now.table → Holds m r.longfile kept seen.old
         → WalksRecord m r (record_place at) (Long inode number sum) kept result seen.new }
 
-    ensures inside { AreInside ground.now.shape.count seen.new.longs }
-    ensures listing { IsListing (places_of ground.now.table) seen.new.listing }
-    ensures next { seen.new.listing.next ≡ seen.old.listing.next }
-    ensures fits { Fits ground.now.shape (D.outside host.new) }
-    ensures reads { JustReads (D.outside host.old) (D.outside host.new) }
-    ensures cause { IsCaused (D.outside host.old).dev_faults (D.outside host.new).dev_faults result }
+    ensures lists { Lists ground.now 1 seen.old seen.new
+        (D.outside host.old) (D.outside host.new) result }
 {
     let mut buffer = [0; 4096];
     let leaf = &mut buffer[0..ground.shape.blocksize as usize];

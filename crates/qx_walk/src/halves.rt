@@ -1,13 +1,13 @@
 //! Whether both halves of the system blocks are as this project writes them.
-ghost use Rattle.std.specs.Prelude.{◌≡◌, ◌+◌, ◌≤◌, IfOk, length, IfErr, Option};
+ghost use Rattle.std.specs.Prelude.{◌≡◌, ◌+◌, ◌*◌, ◌≤◌, IfOk, length};
 ghost use Rattle.qx_blockset.specs.Members.{limit_of};
 ghost use Rattle.qx_geom.specs.Layout.{IsGeometry, IsPointerBlock, tree_base, tree_leaves};
 ghost use Rattle.qx_nodes.specs.BlockMap.{BlockMap};
 ghost use Rattle.qx_view.specs.declared.findings.Finding.{Finding};
 ghost use Rattle.qx_view.specs.Sound.{has_system_trees, is_system_tree};
-ghost use Rattle.qx_pointers.specs.Halts.{HaltsAt, IsCaused};
-ghost use Rattle.qx_walk.specs.Layouts.{IsVolumeOf, are_words_of, has_block_of_half, is_laid_out_by};
-ghost use Rattle.qx_pointers.specs.Shown.{Fits, JustReads, Shows};
+ghost use Rattle.qx_pointers.specs.Halts.{Asks};
+ghost use Rattle.qx_walk.specs.Layouts.{IsMetOn, IsVolumeOn, are_words_of, has_block_of_half, is_laid_out_by};
+ghost use Rattle.qx_pointers.specs.Shown.{Shows};
 
 use qx_blockset::BlockSet;
 use qx_fields::{Order, get32};
@@ -25,14 +25,9 @@ pub(crate) fn is_laid_out<D: Dev>(
     geometry: &Geometry,
     met: &BlockSet,
 ) -> Result<bool, Halt>
-    requires volume { IsVolumeOf shape geometry.now }
-    requires met { limit_of met.now ≡ shape.count }
-    requires fits { Fits shape (D.outside host.old) }
+    requires met { IsMetOn shape geometry.now met.now (D.outside host.old) }
     ensures right { (m : BlockMap) → Shows shape (D.outside host.new) m → IfOk result (λ right. right ≡ is_laid_out_by m view.now geometry.now which met.now) }
-    ensures fits { Fits shape (D.outside host.new) }
-    ensures reads { JustReads (D.outside host.old) (D.outside host.new) }
-    ensures cause { IsCaused (D.outside host.old).dev_faults (D.outside host.new).dev_faults result }
-    ensures no_finding { (f : Option Finding) → IfErr result (HaltsAt f) }
+    ensures asks { Asks (4 * shape.count) (D.outside host.old) (D.outside host.new) result }
 {
     if view.root(RootName::Bitmap) != geometry.tree_root(which, SystemTree::Bitmap)
         || view.root(RootName::Inode) != geometry.tree_root(which, SystemTree::Inodes)
@@ -54,13 +49,9 @@ fn has_system_trees<D: Dev>(
     geometry: &Geometry,
     which: Which,
 ) -> Result<bool, Halt>
-    requires volume { IsVolumeOf shape geometry.now }
-    requires fits { Fits shape (D.outside host.old) }
+    requires volume { IsVolumeOn shape geometry.now (D.outside host.old) }
     ensures words { (m : BlockMap) → Shows shape (D.outside host.new) m → IfOk result (λ right. right ≡ has_system_trees m geometry.now which) }
-    ensures fits { Fits shape (D.outside host.new) }
-    ensures reads { JustReads (D.outside host.old) (D.outside host.new) }
-    ensures cause { IsCaused (D.outside host.old).dev_faults (D.outside host.new).dev_faults result }
-    ensures no_finding { (f : Option Finding) → IfErr result (HaltsAt f) }
+    ensures asks { Asks (2 * shape.count) (D.outside host.old) (D.outside host.new) result }
 {
     if !has_system_words(host, shape, geometry, which, SystemTree::Bitmap)? {
         return Ok(false);
@@ -76,17 +67,14 @@ fn has_system_words<D: Dev>(
     which: Which,
     tree: SystemTree,
 ) -> Result<bool, Halt>
-    requires volume { IsVolumeOf shape geometry.now }
-    requires fits { Fits shape (D.outside host.old) }
+    requires volume { IsVolumeOn shape geometry.now (D.outside host.old) }
     ensures words { (m : BlockMap) → Shows shape (D.outside host.new) m
         → IfOk result (λ right. right ≡ is_system_tree m (tree_base geometry.now which tree) (tree_leaves geometry.now tree)) }
-    ensures fits { Fits shape (D.outside host.new) }
-    ensures reads { JustReads (D.outside host.old) (D.outside host.new) }
-    ensures cause { IsCaused (D.outside host.old).dev_faults (D.outside host.new).dev_faults result }
-    ensures no_finding { (f : Option Finding) → IfErr result (HaltsAt f) }
+    ensures asks { Asks shape.count (D.outside host.old) (D.outside host.new) result }
 {
     let blocks = geometry.pointer_blocks(which, tree);
-    for block in blocks.start..blocks.end {
+    let first = blocks.start;
+    for block in first..blocks.end {
         if !has_right_words(host, shape, geometry, which, tree, block)? {
             return Ok(false);
         }
@@ -103,15 +91,11 @@ fn has_right_words<D: Dev>(
     tree: SystemTree,
     block: u32,
 ) -> Result<bool, Halt>
-    requires volume { IsVolumeOf shape geometry.now }
+    requires volume { IsVolumeOn shape geometry.now (D.outside host.old) }
     requires block { IsPointerBlock geometry.now which tree block }
-    requires fits { Fits shape (D.outside host.old) }
     ensures words { (m : BlockMap) → Shows shape (D.outside host.new) m
         → IfOk result (λ right. right ≡ are_words_of geometry.now which tree block m.order (m.bytes block)) }
-    ensures fits { Fits shape (D.outside host.new) }
-    ensures reads { JustReads (D.outside host.old) (D.outside host.new) }
-    ensures cause { IsCaused (D.outside host.old).dev_faults (D.outside host.new).dev_faults result }
-    ensures no_finding { (f : Option Finding) → IfErr result (HaltsAt f) }
+    ensures asks { Asks 1 (D.outside host.old) (D.outside host.new) result }
 {
     let mut buffer = [0; 4096];
     let bytes = &mut buffer[0..shape.blocksize as usize];

@@ -1,19 +1,17 @@
 //! The inodes of a tree, walked in the order in which they are listed.
 ghost use Rattle.std.specs.Prelude.{◌≡◌, ◌<◌, ◌≤◌, ◌==◌, ◌&&◌, not, nat_lt, Some, is_some, true};
-ghost use Rattle.qx_blockset.specs.Members.{limit_of};
 ghost use Rattle.qx_nodes.specs.BlockMap.{BlockMap};
 ghost use Rattle.qx_records.specs.declared.kind.Kind.TheVariants as kinds;
 ghost use Rattle.qx_records.specs.InodeRecord.{kind_of};
 ghost use Rattle.qx_view.specs.Images.{Roots};
 ghost use Rattle.qx_view.specs.Walk.{inode_mode, inode_root};
-ghost use Rattle.qx_pointers.specs.Halts.{IsCaused};
 ghost use Rattle.qx_walk.specs.Inodes.{Begins, Done, Remembers, WalksAll, WalksInode};
-ghost use Rattle.qx_pointers.specs.Shown.{Fits, JustReads, Shows};
-ghost use Rattle.qx_tables.specs.Tables.{AreInside, HoldsInodes, IsListing, places_of};
+ghost use Rattle.qx_walk.specs.Steps.{Carries, IsUnderway};
+ghost use Rattle.qx_pointers.specs.Shown.{Shows};
+ghost use Rattle.qx_tables.specs.Tables.{HoldsInodes, places_of};
 
 use crate::own_nodes::{is_foreign_directory, noted, walk_own_node};
-use crate::way::Way;
-use crate::{Directory, Ground, Seen, walk_records};
+use crate::{Directory, Ground, Seen, Way, walk_records};
 use qx_geom::ABSENT;
 use qx_outside::Dev;
 use qx_pointers::Halt;
@@ -28,20 +26,13 @@ pub(crate) fn walk_inodes<D: Dev>(
     way: &mut Way,
     seen: &mut Seen,
 ) -> Result<(), Halt>
-    requires met { limit_of way.old.met ≡ ground.now.shape.count }
-    requires inside { AreInside ground.now.shape.count seen.old.longs }
-    requires listing { IsListing (places_of ground.now.table) seen.old.listing }
-    requires fits { Fits ground.now.shape (D.outside host.old) }
+    requires underway { IsUnderway ground.now way.old seen.old (D.outside host.old) }
     ensures walked { (m : BlockMap) (r : Roots) → Shows ground.now.shape (D.outside host.new) m → HoldsInodes m r.inodes ground.now.table
         → Begins m r way.old seen.old → WalksAll m r result way.new seen.new }
 
     // Whether the device tells or not.
-    ensures limit { limit_of way.new.met ≡ limit_of way.old.met }
-    ensures inside { AreInside ground.now.shape.count seen.new.longs }
-    ensures listing { IsListing (places_of ground.now.table) seen.new.listing }
-    ensures fits { Fits ground.now.shape (D.outside host.new) }
-    ensures reads { JustReads (D.outside host.old) (D.outside host.new) }
-    ensures cause { IsCaused (D.outside host.old).dev_faults (D.outside host.new).dev_faults result }
+    ensures carries { Carries ground.now 0 way.old way.new seen.old seen.new
+        (D.outside host.old) (D.outside host.new) result }
 {
     while let Some(queued) = seen.listing.take() {
         walk_inode(host, ground, queued, way, seen)?;
@@ -58,21 +49,14 @@ fn walk_inode<D: Dev>(
     seen: &mut Seen,
 ) -> Result<(), Halt>
     requires there { (0 < queued.inode) × (queued.inode ≤ places_of ground.now.table) }
-    requires met { limit_of way.old.met ≡ ground.now.shape.count }
-    requires inside { AreInside ground.now.shape.count seen.old.longs }
-    requires listing { IsListing (places_of ground.now.table) seen.old.listing }
-    requires fits { Fits ground.now.shape (D.outside host.old) }
+    requires underway { IsUnderway ground.now way.old seen.old (D.outside host.old) }
     ensures walked { (m : BlockMap) (r : Roots) (done : Done) → Shows ground.now.shape (D.outside host.new) m → HoldsInodes m r.inodes ground.now.table
         → Remembers m r done way.old seen.old → is_some (kind_of (inode_mode m r queued.inode)) ≡ true
         → WalksInode m r queued.inode queued.parent done result way.new seen.new }
 
-    ensures limit { limit_of way.new.met ≡ limit_of way.old.met }
-    ensures inside { AreInside ground.now.shape.count seen.new.longs }
-    ensures listing { IsListing (places_of ground.now.table) seen.new.listing }
     ensures next { seen.new.listing.next ≡ seen.old.listing.next }
-    ensures fits { Fits ground.now.shape (D.outside host.new) }
-    ensures reads { JustReads (D.outside host.old) (D.outside host.new) }
-    ensures cause { IsCaused (D.outside host.old).dev_faults (D.outside host.new).dev_faults result }
+    ensures carries { Carries ground.now 1 way.old way.new seen.old seen.new
+        (D.outside host.old) (D.outside host.new) result }
 {
     let inode = ground.table.inode(queued.inode);
     // The records that listed it were tested for its kind.
@@ -123,21 +107,14 @@ fn walk_directory<D: Dev>(
     seen: &mut Seen,
 ) -> Result<(), Halt>
     requires there { (0 < directory.now.inode) × (directory.now.inode ≤ places_of ground.now.table) }
-    requires met { limit_of way.old.met ≡ ground.now.shape.count }
-    requires inside { AreInside ground.now.shape.count seen.old.longs }
-    requires listing { IsListing (places_of ground.now.table) seen.old.listing }
-    requires fits { Fits ground.now.shape (D.outside host.old) }
+    requires underway { IsUnderway ground.now way.old seen.old (D.outside host.old) }
     ensures walked { (m : BlockMap) (r : Roots) (done : Done) → Shows ground.now.shape (D.outside host.new) m → HoldsInodes m r.inodes ground.now.table
         → Remembers m r done way.old seen.old → kind_of (inode_mode m r directory.now.inode) ≡ Some kinds.Directory → directory.now.node ≡ inode_root m r directory.now.inode
         → WalksInode m r directory.now.inode directory.now.parent done result way.new seen.new }
 
-    ensures limit { limit_of way.new.met ≡ limit_of way.old.met }
-    ensures inside { AreInside ground.now.shape.count seen.new.longs }
-    ensures listing { IsListing (places_of ground.now.table) seen.new.listing }
     ensures next { seen.new.listing.next ≡ seen.old.listing.next }
-    ensures fits { Fits ground.now.shape (D.outside host.new) }
-    ensures reads { JustReads (D.outside host.old) (D.outside host.new) }
-    ensures cause { IsCaused (D.outside host.old).dev_faults (D.outside host.new).dev_faults result }
+    ensures carries { Carries ground.now 1 way.old way.new seen.old seen.new
+        (D.outside host.old) (D.outside host.new) result }
 {
     let part = walk_own_node(
         host,

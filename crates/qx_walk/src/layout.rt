@@ -1,5 +1,5 @@
 //! Whether a volume is laid out as this project writes it, and counted right.
-ghost use Rattle.std.specs.Prelude.{◌≡◌, ◌<◌, ◌≤◌, ◌+◌, ℕ, not, Some, None, IfOk, IfSome, IfErr, Option};
+ghost use Rattle.std.specs.Prelude.{◌≡◌, ◌<◌, ◌≤◌, ◌+◌, ◌*◌, ℕ, not, Some, None, IfOk, IfSome};
 ghost use Rattle.qx_blockset.specs.Members.{limit_of};
 ghost use Rattle.qx_geom.specs.declared.area.Which.{Which as Area};
 ghost use Rattle.qx_geom.specs.Layout.{IsGeometry};
@@ -9,9 +9,9 @@ ghost use Rattle.qx_view.specs.declared.findings.Finding.{Finding};
 ghost use Rattle.qx_view.specs.Images.{Roots, inode_places, main_roots};
 ghost use Rattle.qx_view.specs.Sound.{fails_inodes, is_empty_root, is_written_by, is_written_inode, last_with, reason_with, written_geometry};
 ghost use Rattle.qx_view.specs.Walk.{walked_inodes};
-ghost use Rattle.qx_pointers.specs.Halts.{HaltsAt, IsCaused};
+ghost use Rattle.qx_pointers.specs.Halts.{Asks};
 ghost use Rattle.qx_walk.specs.Layouts.{HasNumbers, IsShapeOf, has_right_counts, later_reason};
-ghost use Rattle.qx_pointers.specs.Shown.{Fits, JustReads, Shows};
+ghost use Rattle.qx_pointers.specs.Shown.{Fits, Shows};
 ghost use Rattle.qx_tables.specs.Tables.{HoldsInodes, places_of};
 ghost use Rattle.qx_walk.specs.Trees.{HasBounds, IsWalked};
 
@@ -77,10 +77,7 @@ pub fn first_reason<D: Dev>(
     requires fits { Fits shape (D.outside host.old) }
     ensures reason { (m : BlockMap) (len : ℕ) → Shows shape (D.outside host.new) m → written_geometry view.now len ≡ geometry → IsWalked m (main_roots view.now) walked.now
         → IfOk result (λ why. why ≡ reason_with m view.now which geometry) }
-    ensures fits { Fits shape (D.outside host.new) }
-    ensures reads { JustReads (D.outside host.old) (D.outside host.new) }
-    ensures cause { IsCaused (D.outside host.old).dev_faults (D.outside host.new).dev_faults result }
-    ensures no_finding { (f : Option Finding) → IfErr result (HaltsAt f) }
+    ensures asks { Asks (5 * shape.count) (D.outside host.old) (D.outside host.new) result }
 {
     let Some(geometry) = geometry else {
         return Ok(Some(Foreign {

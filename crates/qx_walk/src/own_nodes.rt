@@ -1,19 +1,20 @@
 //! The node of an inode, and what is noted of it.
-ghost use Rattle.std.specs.Prelude.{◌≡◌, ◌<◌, ◌≤◌, ◌%◌, ℕ, List, All, IfErr, IfOk, IfSome, OnOk, Option};
-ghost use Rattle.qx_blockset.specs.Members.{limit_of};
+ghost use Rattle.std.specs.Prelude.{◌≡◌, ◌<◌, ◌≤◌, ◌+◌, ◌%◌, ℕ, List, All, IfOk, IfSome, OnOk, length};
+ghost use Rattle.qx_blockset.specs.Members.{count_of, limit_of};
 ghost use Rattle.qx_geom.specs.Pointer.{ceil_div, reach};
 ghost use Rattle.qx_nodes.specs.BlockMap.{BlockMap};
 ghost use Rattle.qx_nodes.specs.ForeignNodes.{is_foreign_node as is_foreign_root};
 ghost use Rattle.qx_view.specs.declared.findings.Finding.{Finding};
 ghost use Rattle.qx_view.specs.Sound.{are_zero, is_foreign_directory as is_foreign_directory_node};
-ghost use Rattle.qx_pointers.specs.Halts.{HaltsAt, IsCaused};
+ghost use Rattle.qx_pointers.specs.declared.halt.Halt.TheVariants as halts;
+ghost use Rattle.qx_pointers.specs.Halts.{Asks};
 ghost use Rattle.qx_walk.specs.Inodes.{WalksNode, tail_at};
 ghost use Rattle.qx_pointers.specs.Marks.{Marks};
 ghost use Rattle.qx_pointers.specs.Parts.{IsPlaced, IsWhole};
-ghost use Rattle.qx_pointers.specs.Shown.{Fits, JustReads, Shows};
+ghost use Rattle.qx_pointers.specs.Shown.{Fits, Looks, Shows};
 ghost use Rattle.qx_walk.specs.Trees.{note_if};
 
-use crate::way::Way;
+use crate::Way;
 use qx_geom::{Root, levels};
 use qx_outside::Dev;
 use qx_pointers::{Halt, Part, Shape, Visitor, read_block_from, walk_node};
@@ -36,9 +37,9 @@ pub(crate) fn walk_own_node<D: Dev>(
     ensures placed { OnOk result (All (IsPlaced shape node.now) way.new.leaves.items) }
     ensures dots { way.new.notes.dots ≡ way.old.notes.dots }
     ensures limit { limit_of way.new.met ≡ limit_of way.old.met }
-    ensures fits { Fits shape (D.outside host.new) }
-    ensures reads { JustReads (D.outside host.old) (D.outside host.new) }
-    ensures cause { IsCaused (D.outside host.old).dev_faults (D.outside host.new).dev_faults result }
+    ensures few { length way.new.leaves.items + count_of way.old.met ≤ count_of way.new.met }
+    ensures looks { Looks halts.Device (count_of way.old.met) (count_of way.new.met + 1)
+        (D.outside host.old) (D.outside host.new) result }
 {
     way.leaves.clear();
     let visitor = Visitor {
@@ -87,10 +88,7 @@ fn has_tail<D: Dev>(host: &mut D, shape: Shape, node: &Root, part: Part) -> Resu
     requires end { IfSome part.end (λ block. block < shape.count) }
     requires fits { Fits shape (D.outside host.old) }
     ensures tail { (m : BlockMap) → Shows shape (D.outside host.new) m → IfOk result (λ tail. tail ≡ tail_at m (node.now.size % m.size) part.end) }
-    ensures no_finding { (f : Option Finding) → IfErr result (HaltsAt f) }
-    ensures fits { Fits shape (D.outside host.new) }
-    ensures reads { JustReads (D.outside host.old) (D.outside host.new) }
-    ensures cause { IsCaused (D.outside host.old).dev_faults (D.outside host.new).dev_faults result }
+    ensures asks { Asks 1 (D.outside host.old) (D.outside host.new) result }
 {
     let Some(block) = part.end else {
         return Ok(false);

@@ -1,19 +1,19 @@
 //! The tree of a volume, walked from its root nodes.
-ghost use Rattle.std.specs.Prelude.{◌≡◌, ◌<◌, ℕ, IfOk, OnOk};
+ghost use Rattle.std.specs.Prelude.{◌≢◌, ◌<◌, ◌*◌, ◌/◌, Err, IfOk, OnOk};
 ghost use Rattle.qx_blockset.specs.Members.{Members};
 ghost use Rattle.qx_nodes.specs.BlockMap.{BlockMap};
 ghost use Rattle.qx_view.specs.Images.{Roots};
 ghost use Rattle.qx_view.specs.Walk.{finding_of, top_tests};
-ghost use Rattle.qx_pointers.specs.Halts.{Answers, IsCaused};
+ghost use Rattle.qx_pointers.specs.declared.halt.Halt.TheVariants as halts;
+ghost use Rattle.qx_pointers.specs.Halts.{Answers};
 ghost use Rattle.qx_pointers.specs.Marks.{GoesThrough};
-ghost use Rattle.qx_pointers.specs.Shown.{Fits, JustReads, Shows};
+ghost use Rattle.qx_pointers.specs.Shown.{Fits, Looks, Shows};
 ghost use Rattle.qx_tables.specs.Tables.{HoldsInodes, places_of};
 ghost use Rattle.qx_walk.specs.Trees.{HasBounds, IsWalked, roots_of};
 
 use crate::inodes::walk_inodes;
 use crate::own_nodes::{is_foreign_node, noted};
-use crate::way::Way;
-use crate::{Ground, Notes, RootNodes, Seen, Walked};
+use crate::{Ground, Notes, RootNodes, Seen, Walked, Way};
 use qx_blockset::BlockSet;
 use qx_geom::ABSENT;
 use qx_outside::Dev;
@@ -36,9 +36,7 @@ pub fn walk_tree<D: Dev>(
 
     // Whether the device tells or not.
     ensures bounds { IfOk result (HasBounds shape.count) }
-    ensures fits { Fits shape (D.outside host.new) }
-    ensures reads { JustReads (D.outside host.old) (D.outside host.new) }
-    ensures cause { IsCaused (D.outside host.old).dev_faults (D.outside host.new).dev_faults result }
+    ensures looks { Looks halts.Device 0 (shape.count * (shape.blocksize / 8)) (D.outside host.old) (D.outside host.new) result }
 {
     let mut met = BlockSet::new(alloc, shape.count)?;
     let mut leaves = Vec::new(alloc);
@@ -90,7 +88,7 @@ pub fn walk_tree<D: Dev>(
 fn test_top(table: &InodeTable) -> Result<(), Halt>
     ensures tests { (m : BlockMap) (r : Roots) (met : Members) → HoldsInodes m r.inodes table.now → GoesThrough (top_tests m r) result met met }
     ensures some { OnOk result (0 < places_of table.now) }
-    ensures cause { (faults : ℕ) → IsCaused faults faults result }
+    ensures no_fault { result ≢ Err halts.Device }
 {
     if table.places() == 0 {
         return Err(Halt::Finding(Finding {

@@ -1,10 +1,10 @@
-use Rattle.std.proofs.Common.{◌≡◌, ◌<◌, ◌≤◌, ◌+◌, ◌*◌}
+use Rattle.std.proofs.Common.{◌<◌, ◌≤◌, ◌+◌, ◌*◌}
 use Rattle.std.specs.Prelude.{All, IfSome, Ok}
-use Rattle.qx_blockset.specs.Members.{limit_of}
 use Rattle.qx_nodes.specs.BlockMap.{BlockMap}
+use Rattle.qx_pointers.specs.Marks.{Follows}
 use Rattle.qx_pointers.specs.Parts.{IsLeafOf}
 use Rattle.qx_pointers.specs.Passage.{Sees, bare_beside, strays_beside, visits_beside}
-use Rattle.qx_pointers.specs.Shown.{Fits, JustReads, Shows}
+use Rattle.qx_pointers.specs.Shown.{Shows}
 use Rattle.qx_pointers.proofs.pointers.+pointers.Given as goal
 
 -- the level, and pointers side by side before one of them
@@ -22,8 +22,5 @@ invariant-visit_each-loop-place g l = record {
   few : l.all.leaves ≤ l.place * l.first.span;
   placed : All (IsLeafOf l.visitor.shape.count l.last) l.leaves.items;
   end : IfSome l.all.end (λ block. block < l.visitor.shape.count);
-  limit : limit_of l.met ≡ limit_of l.fn.met;
-  fits : Fits l.visitor.shape (g.D.Dev.outside l.host);
-  reads : JustReads (g.D.Dev.outside l.fn.host) (g.D.Dev.outside l.host);
-  faults : (g.D.Dev.outside l.host).dev_faults ≡ (g.D.Dev.outside l.fn.host).dev_faults;
+  follows : Follows l.fn.met l.met l.fn.leaves.items l.leaves.items (g.D.Dev.outside l.fn.host) (g.D.Dev.outside l.host) (Ok l.all);
 }

@@ -1,4 +1,4 @@
-use Rattle.std.proofs.Common.{rules, ◌≡◌, ℕ, ◌%◌, ◌<◌, ◌≤◌, inl, inr, List, length, get_or, take, refl, sym, ◌∙◌, ap, subst, arith}
+use Rattle.std.proofs.Common.{rules, ◌≡◌, ℕ, ◌+◌, ◌*◌, ◌%◌, ◌<◌, ◌≤◌, inl, inr, List, length, get_or, take, sym, ◌∙◌, ap, subst, arith}
 use Rattle.std.specs.Prelude.{Bool, Contains, Ok, Err}
 use Rattle.std.proofs.lemmas.List.{take_all, take_more}
 use Rattle.std.proofs.lemmas.List.Elements.{Contains-get_or, Contains-push_cases}
@@ -9,9 +9,13 @@ use Rattle.qx_walk.proofs.LeafDots.{has_first}
 use Rattle.qx_tables.proofs.LeafLists.{leaf_listed}
 use Rattle.qx_walk.proofs.LeafRecords.{block_sizes}
 use Rattle.qx_walk.proofs.LeafWalks.{leaves_halt, leaves_more, records_of, records_present, split_at}
-use Rattle.qx_walk.proofs.RowsInOrder.{caused_halt, caused_none, kept_before, walks_all, walks_as, walks_none}
-use Rattle.qx_pointers.proofs.ShownBlocks.{reads_none, reads_then, shown_size, shows_before}
+use Rattle.qx_walk.proofs.RowsInOrder.{kept_before, walks_all, walks_as, walks_none}
+use Rattle.qx_pointers.proofs.ShownBlocks.{shown_size, shows_before}
 use Rattle.qx_pointers.specs.declared.node.LeafPlace.{LeafPlace}
+use Rattle.std.proofs.Math.Nat.{mul-le-mul_right}
+use Rattle.qx_tables.proofs.FilledLeaves.{room_of}
+use Rattle.qx_walk.proofs.StepsInOrder.{lists_ok, lists_then}
+use Rattle.qx_walk.specs.Steps.{leaf_reads}
 use Rattle.qx_walk.specs.Rows.{WalksThrough, begins_with_dots}
 use Rattle.qx_walk.proofs.directory.walk_records.Goals.{then-leaf-eq0, else-leaf-eq0}
 use Rattle.qx_walk.proofs.directory.walk_records.Goals as goal
@@ -28,12 +32,7 @@ pub loop-leaf-init : goal.loop-leaf-init
 loop-leaf-init g c = record {
   walked = λ m r queue listed numbers s i n l a. walks_none m r c.args.directory.now (kept_before queue listed numbers) 0 _ (record { names = c.clear.ensures; listing = l; longs = n });
   dots = λ m p s a there front. absurd (omega (arith, there.1));
-  inside = c.requires.inside;
-  listing = c.requires.listing;
-  next = refl;
-  fits = c.requires.fits;
-  reads = reads_none (g.D.Dev.outside c.args.host.now);
-  faults = search rules;
+  lists = search (rules, arith);
 }
 
 pub loop-leaf-preserved : goal.loop-leaf-preserved
@@ -48,12 +47,12 @@ loop-leaf-preserved g c =
     record {
       walked = λ m r queue listed numbers s i n l a.
           let at = leaf_listed m d.node leaves leaf (has_room m.size shape.blocksize (shown_size shape _ m s) sizes) a (Contains-get_or leaves k nowhere low) in
-          let first = c.loop-leaf.invariant.walked m r queue listed numbers (shows_before shape (g.D.Dev.outside c.loop-leaf.host) (g.D.Dev.outside c.walk_leaf.new.host) m c.walk_leaf.ensures.reads s) i n l a in
+          let first = c.loop-leaf.invariant.walked m r queue listed numbers (shows_before shape (g.D.Dev.outside c.loop-leaf.host) (g.D.Dev.outside c.walk_leaf.new.host) m c.walk_leaf.ensures.lists.looks.reads s) i n l a in
           leaves_more m r d leaves k leaf (kept_before queue listed numbers) 0 (Ok 0) c.loop-leaf.seen c.walk_leaf.new.seen (take_more leaves k nowhere low) first
           (walks_as m r d _ _ c.in_ok-begins.begins 0 c.walk_leaf.new.seen (c.in_ok-begins.ensures.walked m r _ s i first.holds at));
       dots = λ m p s a there front.
           let at = leaf_listed m d.node leaves leaf (has_room m.size shape.blocksize (shown_size shape _ m s) sizes) a (Contains-get_or leaves k nowhere low) in
-          let earlier : Contains (take k leaves) p → c.loop-leaf.dots ≡ begins_with_dots m d.node = λ before. c.loop-leaf.invariant.dots m p (shows_before shape (g.D.Dev.outside c.loop-leaf.host) (g.D.Dev.outside c.walk_leaf.new.host) m c.walk_leaf.ensures.reads s) a before front in
+          let earlier : Contains (take k leaves) p → c.loop-leaf.dots ≡ begins_with_dots m d.node = λ before. c.loop-leaf.invariant.dots m p (shows_before shape (g.D.Dev.outside c.loop-leaf.host) (g.D.Dev.outside c.walk_leaf.new.host) m c.walk_leaf.ensures.lists.looks.reads s) a before front in
           elim c.if-leaf-eq0.branch [
             | then-leaf-eq0 w ↦ w.dots-is ∙ c.in_ok-begins.ensures.dots m s at w.if-leaf-eq0.true
             | else-leaf-eq0 w ↦
@@ -63,12 +62,8 @@ loop-leaf-preserved g c =
                 ] in
                 w.dots-is ∙ old
           ];
-      inside = c.walk_leaf.ensures.inside;
-      listing = c.walk_leaf.ensures.listing;
-      next = c.walk_leaf.ensures.next ∙ c.loop-leaf.invariant.next;
-      fits = c.walk_leaf.ensures.fits;
-      reads = reads_then (g.D.Dev.outside c.args.host.now) (g.D.Dev.outside c.loop-leaf.host) (g.D.Dev.outside c.walk_leaf.new.host) c.loop-leaf.invariant.reads c.walk_leaf.ensures.reads;
-      faults = search (rules, c.walk_leaf.ensures.cause.kept, c.loop-leaf.invariant.faults);
+      lists = lists_then c.args.ground.now (k * leaf_reads shape) (leaf_reads shape) ((k + 1) * leaf_reads shape) c.args.seen.now c.loop-leaf.seen c.walk_leaf.new.seen (g.D.Dev.outside c.args.host.now) (g.D.Dev.outside c.loop-leaf.host) (g.D.Dev.outside c.walk_leaf.new.host) 0 (Ok 0) (room_of k (k + 1) (leaf_reads shape) (omega arith)) c.loop-leaf.invariant.lists
+          (lists_ok c.args.ground.now (leaf_reads shape) (leaf_reads shape) c.loop-leaf.seen c.walk_leaf.new.seen (g.D.Dev.outside c.loop-leaf.host) (g.D.Dev.outside c.walk_leaf.new.host) c.in_ok-begins.begins 0 (omega arith) c.in_ok-begins.ensures.lists);
     }
 
 pub returns-in_err-begins-clause-walked : goal.returns-in_err-begins-clause-walked
@@ -84,7 +79,7 @@ returns-in_err-begins-clause-walked g c = λ m r queue listed numbers s i n l a.
     let room : 0 < per_block m.size = has_room m.size shape.blocksize size sizes in
     let has : HasSize m = record { size = omega (arith, size, sizes); words = room } in
     let at = leaf_listed m d.node leaves leaf room a (Contains-get_or leaves k nowhere low) in
-    let first = c.loop-leaf.invariant.walked m r queue listed numbers (shows_before shape (g.D.Dev.outside c.loop-leaf.host) (g.D.Dev.outside c.walk_leaf.new.host) m c.walk_leaf.ensures.reads s) i n l a in
+    let first = c.loop-leaf.invariant.walked m r queue listed numbers (shows_before shape (g.D.Dev.outside c.loop-leaf.host) (g.D.Dev.outside c.walk_leaf.new.host) m c.walk_leaf.ensures.lists.looks.reads s) i n l a in
     let p = err_from_is_err_and c.from_residual.result c.from_residual.ensures.1 in
     rw (p.1, p.2) (walks_all m r d queue listed numbers (Err c.in_err-begins.field-0.0) c.walk_leaf.new.seen has (subst (λ z. z % 32 ≡ 0) (sym size) sizes.0) a.fits
     (subst (λ ks. WalksThrough {T = Bool} m r d ks (kept_before queue listed numbers) (Err c.in_err-begins.field-0.0) c.walk_leaf.new.seen) (records_present m d.node leaves a)
@@ -92,13 +87,12 @@ returns-in_err-begins-clause-walked g c = λ m r queue listed numbers s i n l a.
     (c.in_err-begins.ensures.walked m r _ s i first.holds at)))
     tt)
 
-pub returns-in_err-begins-clause-reads : goal.returns-in_err-begins-clause-reads
-returns-in_err-begins-clause-reads g c = reads_then (g.D.Dev.outside c.args.host.now) (g.D.Dev.outside c.loop-leaf.host) (g.D.Dev.outside c.walk_leaf.new.host) c.loop-leaf.invariant.reads c.walk_leaf.ensures.reads
-
-pub returns-in_err-begins-clause-cause : goal.returns-in_err-begins-clause-cause
-returns-in_err-begins-clause-cause g c =
+pub returns-in_err-begins-clause-lists : goal.returns-in_err-begins-clause-lists
+returns-in_err-begins-clause-lists g c =
+    let ground = c.args.ground.now in
+    let k : ℕ = c.loop-leaf.leaf-index in
     let p = err_from_is_err_and c.from_residual.result c.from_residual.ensures.1 in
-    rw (p.1, p.2) (caused_halt _ _ _ c.in_err-begins.field-0.0 c.loop-leaf.invariant.faults c.in_err-begins.ensures.cause)
+    rw (p.1, p.2) (lists_then ground (k * leaf_reads ground.shape) (leaf_reads ground.shape) _ c.args.seen.now c.loop-leaf.seen c.walk_leaf.new.seen (g.D.Dev.outside c.args.host.now) (g.D.Dev.outside c.loop-leaf.host) (g.D.Dev.outside c.walk_leaf.new.host) 0 (Err c.in_err-begins.field-0.0) (room_of k (length c.args.leaves.now) (leaf_reads ground.shape) c.loop-leaf-test.true) c.loop-leaf.invariant.lists c.in_err-begins.ensures.lists)
 
 pub returns-clause-walked : goal.returns-clause-walked
 returns-clause-walked g c = λ m r queue listed numbers s i n l a.
@@ -118,5 +112,7 @@ returns-clause-walked g c = λ m r queue listed numbers s i n l a.
     let first : (p : LeafPlace) × Contains leaves p × (p.index ≡ 0) = has_first m shape d.node leaves room size a c.requires.placed laid in
     c.loop-leaf.invariant.dots m first.0 s a (subst (λ z. Contains z first.0) (sym taken) first.1) first.2)
 
-pub returns-clause-cause : goal.returns-clause-cause
-returns-clause-cause g c = caused_none _ _ c.loop-leaf.dots c.loop-leaf.invariant.faults
+pub returns-clause-lists : goal.returns-clause-lists
+returns-clause-lists g c =
+    let ground = c.args.ground.now in
+    lists_ok ground (c.loop-leaf.leaf-index * leaf_reads ground.shape) _ c.args.seen.now c.loop-leaf.seen (g.D.Dev.outside c.args.host.now) (g.D.Dev.outside c.loop-leaf.host) 0 c.loop-leaf.dots (mul-le-mul_right (leaf_reads ground.shape) c.loop-leaf.auto.leaf-index-end) c.loop-leaf.invariant.lists

@@ -1,4 +1,4 @@
-use Rattle.std.proofs.Common.{◌≡◌, ℕ, List, take}
+use Rattle.std.proofs.Common.{◌≡◌, ◌*◌, ℕ, List, take}
 use Rattle.std.specs.Prelude.{Ok, Contains}
 use Rattle.qx_nodes.specs.BlockMap.{BlockMap}
 use Rattle.qx_view.specs.Images.{Roots}
@@ -6,8 +6,9 @@ use Rattle.qx_walk.proofs.LeafWalks.{records_of}
 use Rattle.qx_walk.proofs.RowsInOrder.{kept_before}
 use Rattle.qx_pointers.specs.declared.node.LeafPlace.{LeafPlace}
 use Rattle.qx_walk.specs.Rows.{WalksThrough, begins_with_dots}
-use Rattle.qx_pointers.specs.Shown.{Fits, JustReads, Shows}
-use Rattle.qx_tables.specs.Tables.{AreInside, AreLeaves, HasListed, HoldsInodes, HoldsNames, IsListing, places_of}
+use Rattle.qx_walk.specs.Steps.{Lists, leaf_reads}
+use Rattle.qx_pointers.specs.Shown.{Shows}
+use Rattle.qx_tables.specs.Tables.{AreLeaves, HasListed, HoldsInodes, HoldsNames}
 use Rattle.qx_walk.proofs.directory.walk_records.Given as goal
 
 -- the records of the leaves so far were gone through
@@ -19,10 +20,5 @@ invariant-loop-leaf g l = record {
       → WalksThrough {T = ℕ} m r l.directory (records_of m l.directory (take l.leaf-index l.leaves)) (kept_before queue listed numbers) (Ok 0) l.seen;
   dots : (m : BlockMap) (p : LeafPlace) → Shows l.ground.shape (g.D.Dev.outside l.host) m → AreLeaves m l.directory.node l.leaves
       → Contains (take l.leaf-index l.leaves) p → p.index ≡ 0 → l.dots ≡ begins_with_dots m l.directory.node;
-  inside : AreInside l.ground.shape.count l.seen.longs;
-  listing : IsListing (places_of l.ground.table) l.seen.listing;
-  next : l.seen.listing.next ≡ l.fn.seen.listing.next;
-  fits : Fits l.ground.shape (g.D.Dev.outside l.host);
-  reads : JustReads (g.D.Dev.outside l.fn.host) (g.D.Dev.outside l.host);
-  faults : (g.D.Dev.outside l.host).dev_faults ≡ (g.D.Dev.outside l.fn.host).dev_faults;
+  lists : Lists {T = ℕ} l.ground (l.leaf-index * leaf_reads l.ground.shape) l.fn.seen l.seen (g.D.Dev.outside l.fn.host) (g.D.Dev.outside l.host) (Ok 0);
 }

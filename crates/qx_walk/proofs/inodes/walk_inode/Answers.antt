@@ -6,6 +6,7 @@ use Rattle.qx_records.specs.declared.inode.Inode.{Inode}
 use Rattle.qx_records.specs.declared.kind.Kind.TheVariants as kinds
 use Rattle.qx_records.specs.InodeRecord.{kind_of}
 use Rattle.qx_view.specs.Walk.{inode_mode}
+use Rattle.qx_walk.proofs.StepsInOrder.{carries_found, carries_halt, carries_walked}
 use Rattle.qx_walk.proofs.WalkedInodes.{file_walked, kind_missing, kind_read, link_halts, link_walked, link_size_read, node_halts, special_walked, there_in}
 use Rattle.qx_walk.specs.Inodes.{WalksNode}
 use Rattle.qx_walk.proofs.inodes.walk_inode.Goals as goal
@@ -71,3 +72,22 @@ returns-in-Directory-clause-walked g c = λ m r done s h w known.
     let n : ℕ = c.args.queued.inode in
     let is = c.inode-inode.ensures m r.inodes h in
     c.walk_directory.ensures.walked m r done s h w (kind_read m r n c.inode-inode.result c.of.result kinds.Directory is c.of.ensures (c.in-Some.is ∙ ap (λ k. Some k) c.in-Directory.is)) (ap (λ (i : Inode). i.root) is)
+
+pub returns-in_err-walk_own_node-in-File-clause-carries : goal.returns-in_err-walk_own_node-in-File-clause-carries
+returns-in_err-walk_own_node-in-File-clause-carries g c =
+    let p = err_from_is_err_and c.from_residual.result c.from_residual.ensures.1 in
+    rw (p.1, p.2) (carries_halt c.args.ground.now c.args.way.now c.walk_own_node.new.way c.args.seen.now (g.D.Dev.outside c.args.host.now) (g.D.Dev.outside c.walk_own_node.new.host) c.in_err-walk_own_node-in-File.field-0.0 c.requires.underway c.walk_own_node.ensures.limit c.walk_own_node.ensures.few c.in_err-walk_own_node-in-File.ensures.looks)
+
+pub returns-in_err-walk_own_node-in-Link-clause-carries : goal.returns-in_err-walk_own_node-in-Link-clause-carries
+returns-in_err-walk_own_node-in-Link-clause-carries g c =
+    let p = err_from_is_err_and c.from_residual-in_err-walk_own_node-in-Link.result c.from_residual-in_err-walk_own_node-in-Link.ensures.1 in
+    rw (p.1, p.2) (carries_halt c.args.ground.now c.args.way.now c.walk_own_node-in-Link.new.way c.args.seen.now (g.D.Dev.outside c.args.host.now) (g.D.Dev.outside c.walk_own_node-in-Link.new.host) c.in_err-walk_own_node-in-Link.field-0.0 c.requires.underway c.walk_own_node-in-Link.ensures.limit c.walk_own_node-in-Link.ensures.few c.in_err-walk_own_node-in-Link.ensures.looks)
+
+pub returns-in_ok-walk_own_node-in-File-clause-carries : goal.returns-in_ok-walk_own_node-in-File-clause-carries
+returns-in_ok-walk_own_node-in-File-clause-carries g c = carries_walked c.args.ground.now c.args.way.now c.walk_own_node.new.way c.args.seen.now (g.D.Dev.outside c.args.host.now) (g.D.Dev.outside c.walk_own_node.new.host) c.in_ok-walk_own_node-in-File.field-0 tt c.requires.underway c.walk_own_node.ensures.limit c.walk_own_node.ensures.few c.in_ok-walk_own_node-in-File.ensures.looks
+
+pub returns-then-not-is_link_size-clause-carries : goal.returns-then-not-is_link_size-clause-carries
+returns-then-not-is_link_size-clause-carries g c = carries_found c.args.ground.now c.args.way.now c.walk_own_node-in-Link.new.way c.args.seen.now (g.D.Dev.outside c.args.host.now) (g.D.Dev.outside c.walk_own_node-in-Link.new.host) c.in_ok-walk_own_node-in-Link.field-0 _ c.requires.underway c.walk_own_node-in-Link.ensures.limit c.walk_own_node-in-Link.ensures.few c.in_ok-walk_own_node-in-Link.ensures.looks
+
+pub returns-else-not-is_link_size-clause-carries : goal.returns-else-not-is_link_size-clause-carries
+returns-else-not-is_link_size-clause-carries g c = carries_walked c.args.ground.now c.args.way.now c.walk_own_node-in-Link.new.way c.args.seen.now (g.D.Dev.outside c.args.host.now) (g.D.Dev.outside c.walk_own_node-in-Link.new.host) c.in_ok-walk_own_node-in-Link.field-0 tt c.requires.underway c.walk_own_node-in-Link.ensures.limit c.walk_own_node-in-Link.ensures.few c.in_ok-walk_own_node-in-Link.ensures.looks

@@ -1,10 +1,16 @@
 use Rattle.std.proofs.lemmas.Result.{err_from_is_err_and}
-use Rattle.std.proofs.Common.{◌≡◌, sym, ◌∙◌, subst}
-use Rattle.std.specs.Prelude.{Option, Some}
-use Rattle.qx_view.specs.declared.reasons.Reason.TheVariants as reasons
-use Rattle.qx_view.specs.declared.reasons.Foreign.{Foreign as Why}
+use Rattle.std.proofs.Common.{◌≡◌, ◌+◌, ◌*◌, ◌≤◌, sym, ◌∙◌, subst, arith}
+use Rattle.std.specs.Prelude.{IfSome, Option, Some}
+use Rattle.qx_geom.proofs.VolumeNumbers.{IsGeometry-keeps}
+use Rattle.qx_geom.specs.declared.geometry.Geometry.{Geometry}
+use Rattle.qx_pointers.specs.declared.source.Shape.{Shape}
+use Rattle.qx_super.specs.Superblock.{Superblock}
+use Rattle.qx_walk.proofs.StepsInOrder.{asks_halt, asks_then}
 use Rattle.qx_view.specs.Images.{main_roots}
 use Rattle.qx_view.specs.Sound.{reason_with}
+use Rattle.qx_view.specs.declared.reasons.Reason.TheVariants as reasons
+use Rattle.qx_view.specs.declared.reasons.Foreign.{Foreign as Why}
+use Rattle.qx_walk.specs.Layouts.{HasNumbers, IsShapeOf}
 use Rattle.qx_walk.proofs.FirstReasons.{not_laid_out, right_bitmap, wrong_bitmap}
 use Rattle.qx_pointers.proofs.ShownBlocks.{shown_count, shown_size, shows_before}
 use Rattle.qx_walk.proofs.layout.first_reason.Goals as goal
@@ -24,7 +30,7 @@ returns-in-Some-2-clause-reason g c = λ m len shows written is.
     subst (λ o. three ≡ reason_with m c.args.view.now c.args.which o) (sym c.in-Some.is)
     (wrong_bitmap m c.args.view.now len c.in-Some.geometry c.args.which c.args.walked.now (shown_size c.args.shape (g.D.Dev.outside c.first_wrong_bit.new.host) m shows ∙ c.requires.shape.blocksize) (count ∙ c.requires.shape.count) (c.requires.bounds.blocks ∙ sym count)
     (written ∙ c.in-Some.is) is c.in-Some-2.at
-    (sym (c.in_ok-is_laid_out.ensures.right m (shows_before c.args.shape (g.D.Dev.outside c.is_laid_out.new.host) (g.D.Dev.outside c.first_wrong_bit.new.host) m c.first_wrong_bit.ensures.reads shows)) ∙ c.if-not-branch.false)
+    (sym (c.in_ok-is_laid_out.ensures.right m (shows_before c.args.shape (g.D.Dev.outside c.is_laid_out.new.host) (g.D.Dev.outside c.first_wrong_bit.new.host) m c.first_wrong_bit.ensures.asks.reads shows)) ∙ c.if-not-branch.false)
     (sym c.in-Some-2.is ∙ c.in_ok-at.ensures.bit m shows))
 
 pub returns-clause-reason : goal.returns-clause-reason
@@ -34,15 +40,25 @@ returns-clause-reason g c = λ m len shows written is.
     (c.noted_reason.ensures m (main_roots c.args.view.now) is
     ∙ right_bitmap m c.args.view.now len c.in-Some.geometry c.args.which c.args.walked.now (shown_size c.args.shape (g.D.Dev.outside c.first_wrong_bit.new.host) m shows ∙ c.requires.shape.blocksize) (count ∙ c.requires.shape.count) (c.requires.bounds.blocks ∙ sym count)
     (written ∙ c.in-Some.is) is
-    (sym (c.in_ok-is_laid_out.ensures.right m (shows_before c.args.shape (g.D.Dev.outside c.is_laid_out.new.host) (g.D.Dev.outside c.first_wrong_bit.new.host) m c.first_wrong_bit.ensures.reads shows)) ∙ c.if-not-branch.false)
+    (sym (c.in_ok-is_laid_out.ensures.right m (shows_before c.args.shape (g.D.Dev.outside c.is_laid_out.new.host) (g.D.Dev.outside c.first_wrong_bit.new.host) m c.first_wrong_bit.ensures.asks.reads shows)) ∙ c.if-not-branch.false)
     (sym c.in_default-2.is ∙ c.in_ok-at.ensures.bit m shows))
 
-pub returns-in_err-is_laid_out-clause-no_finding : goal.returns-in_err-is_laid_out-clause-no_finding
-returns-in_err-is_laid_out-clause-no_finding g c = λ f.
-    let p = err_from_is_err_and c.from_residual.result c.from_residual.ensures.1 in
-    rw (p.1, p.2) (c.in_err-is_laid_out.ensures.no_finding f)
+-- the bitmap's leaves are some of the blocks
+few : (shape : Shape) (s : Superblock) (g : Geometry) → IsShapeOf s shape → HasNumbers s g → 4 * shape.count + g.bitmap_leaves ≤ 5 * shape.count
+few shape s g is has = let v = IsGeometry-keeps g has.volume in omega (arith, v.parts, v.room, is.count, has.count)
 
-pub returns-in_err-at-clause-no_finding : goal.returns-in_err-at-clause-no_finding
-returns-in_err-at-clause-no_finding g c = λ f.
+pub returns-in_err-at-clause-asks : goal.returns-in_err-at-clause-asks
+returns-in_err-at-clause-asks g c =
+    let has = subst (λ o. IfSome o (HasNumbers c.args.view.now)) c.in-Some.is c.requires.geometry in
     let p = err_from_is_err_and c.from_residual-in_err-at.result c.from_residual-in_err-at.ensures.1 in
-    rw (p.1, p.2) (c.in_err-at.ensures.no_finding f)
+    rw (p.1, p.2) (asks_halt _ _ _ (g.D.Dev.outside c.args.host.now) (g.D.Dev.outside c.is_laid_out.new.host) (g.D.Dev.outside c.first_wrong_bit.new.host) c.in_ok-is_laid_out.field-0 c.in_err-at.field-0.0 (few c.args.shape c.args.view.now c.in-Some.geometry c.requires.shape has) c.in_ok-is_laid_out.ensures.asks c.in_err-at.ensures.asks)
+
+pub returns-in-Some-2-clause-asks : goal.returns-in-Some-2-clause-asks
+returns-in-Some-2-clause-asks g c =
+    let has = subst (λ o. IfSome o (HasNumbers c.args.view.now)) c.in-Some.is c.requires.geometry in
+    asks_then _ _ _ (g.D.Dev.outside c.args.host.now) (g.D.Dev.outside c.is_laid_out.new.host) (g.D.Dev.outside c.first_wrong_bit.new.host) c.in_ok-is_laid_out.field-0 c.in_ok-at.field-0 _ (few c.args.shape c.args.view.now c.in-Some.geometry c.requires.shape has) c.in_ok-is_laid_out.ensures.asks c.in_ok-at.ensures.asks
+
+pub returns-clause-asks : goal.returns-clause-asks
+returns-clause-asks g c =
+    let has = subst (λ o. IfSome o (HasNumbers c.args.view.now)) c.in-Some.is c.requires.geometry in
+    asks_then _ _ _ (g.D.Dev.outside c.args.host.now) (g.D.Dev.outside c.is_laid_out.new.host) (g.D.Dev.outside c.first_wrong_bit.new.host) c.in_ok-is_laid_out.field-0 c.in_ok-at.field-0 _ (few c.args.shape c.args.view.now c.in-Some.geometry c.requires.shape has) c.in_ok-is_laid_out.ensures.asks c.in_ok-at.ensures.asks

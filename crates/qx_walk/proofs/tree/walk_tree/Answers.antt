@@ -1,8 +1,12 @@
-use Rattle.std.proofs.Common.{rules, ◌-◌, [], refl, ◌∙◌, ap, arith}
+use Rattle.std.proofs.Common.{◌-◌, [], length, refl, ◌∙◌, ap, subst, arith}
 use Rattle.std.proofs.lemmas.Result.{err_from_is_err_and}
 use Rattle.qx_blockset.specs.Members.{Members, has}
-use Rattle.qx_pointers.proofs.ShownBlocks.{shown_size, shows_before}
-use Rattle.qx_walk.proofs.TestsAbove.{all_above, all_roots, begins_at, caused_by_test, halts_above, halts_in_further, halts_in_inodes, halts_in_longfile, none_met, noted_above, root_leaves, two_roots}
+use Rattle.qx_pointers.proofs.ShownBlocks.{fits_still, shown_size, shows_before}
+use Rattle.qx_pointers.specs.declared.halt.Halt.TheVariants as halts
+use Rattle.qx_tables.specs.Tables.{IsListing}
+use Rattle.qx_walk.proofs.StepsInOrder.{looks_err, looks_ok}
+use Rattle.qx_walk.proofs.TreeReads.{first_leaves, first_limit, no_memory, read_first, read_halts, read_inodes, read_leaves, read_next, read_other, tree_reads}
+use Rattle.qx_walk.proofs.TestsAbove.{all_above, all_roots, begins_at, halts_above, halts_in_further, halts_in_inodes, halts_in_longfile, none_met, noted_above, root_leaves, two_roots}
 use Rattle.qx_walk.specs.Trees.{roots_of}
 use Rattle.qx_walk.proofs.tree.walk_tree.Goals as goal
 
@@ -22,8 +26,8 @@ pub returns-in_err-longfile-clause-answer : goal.returns-in_err-longfile-clause-
 returns-in_err-longfile-clause-answer g c = λ m s.
     let r = roots_of c.args.roots.now in
     let none = none_met c.args.shape.count _ c.in_ok-met.ensures in
-    let s2 = shows_before c.args.shape _ _ m c.walk_node-2.ensures.reads s in
-    let s1 = shows_before c.args.shape _ _ m c.read.ensures.reads s2 in
+    let s2 = shows_before c.args.shape _ _ m c.walk_node-2.ensures.follows.looks.reads s in
+    let s1 = shows_before c.args.shape _ _ m c.read.ensures.looks.reads s2 in
     let t1 = c.in_ok-walk_node.ensures.tests m s1 in
     let p = err_from_is_err_and c.from_residual-in_err-longfile.result c.from_residual-in_err-longfile.ensures.1 in
     rw (p.1, p.2) (halts_in_longfile m r c.in_err-longfile.field-0.0 _ _ none (two_roots m r _ _ _ _ _ t1 (c.in_err-longfile.ensures.tests m s)))
@@ -32,9 +36,9 @@ pub returns-in_err-walk_node-2-clause-answer : goal.returns-in_err-walk_node-2-c
 returns-in_err-walk_node-2-clause-answer g c = λ m s.
     let r = roots_of c.args.roots.now in
     let none = none_met c.args.shape.count _ c.in_ok-met.ensures in
-    let s3 = shows_before c.args.shape _ _ m c.walk_node-3.ensures.reads s in
-    let s2 = shows_before c.args.shape _ _ m c.walk_node-2.ensures.reads s3 in
-    let s1 = shows_before c.args.shape _ _ m c.read.ensures.reads s2 in
+    let s3 = shows_before c.args.shape _ _ m c.walk_node-3.ensures.follows.looks.reads s in
+    let s2 = shows_before c.args.shape _ _ m c.walk_node-2.ensures.follows.looks.reads s3 in
+    let s1 = shows_before c.args.shape _ _ m c.read.ensures.looks.reads s2 in
     let t1 = c.in_ok-walk_node.ensures.tests m s1 in
     let t2 = c.in_ok-longfile.ensures.tests m s3 in
     let p = err_from_is_err_and c.from_residual-in_err-walk_node-2.result c.from_residual-in_err-walk_node-2.ensures.1 in
@@ -44,9 +48,9 @@ pub returns-in_err-test_top-clause-answer : goal.returns-in_err-test_top-clause-
 returns-in_err-test_top-clause-answer g c = λ m s.
     let r = roots_of c.args.roots.now in
     let none = none_met c.args.shape.count _ c.in_ok-met.ensures in
-    let s3 = shows_before c.args.shape _ _ m c.walk_node-3.ensures.reads s in
-    let s2 = shows_before c.args.shape _ _ m c.walk_node-2.ensures.reads s3 in
-    let s1 = shows_before c.args.shape _ _ m c.read.ensures.reads s2 in
+    let s3 = shows_before c.args.shape _ _ m c.walk_node-3.ensures.follows.looks.reads s in
+    let s2 = shows_before c.args.shape _ _ m c.walk_node-2.ensures.follows.looks.reads s3 in
+    let s1 = shows_before c.args.shape _ _ m c.read.ensures.looks.reads s2 in
     let t1 = c.in_ok-walk_node.ensures.tests m s1 in
     let t2 = c.in_ok-longfile.ensures.tests m s3 in
     let t3 = c.in_ok-walk_node-2.ensures.tests m s in
@@ -56,19 +60,14 @@ returns-in_err-test_top-clause-answer g c = λ m s.
     let p = err_from_is_err_and c.from_residual-in_err-test_top.result c.from_residual-in_err-test_top.ensures.1 in
     rw (p.1, p.2) (halts_above m r c.in_err-test_top.field-0.0 _ _ none (all_above m r _ _ _ _ _ roots (c.in_err-test_top.ensures.tests m r _ holds)))
 
-pub returns-in_err-test_top-clause-cause : goal.returns-in_err-test_top-clause-cause
-returns-in_err-test_top-clause-cause g c =
-    let p = err_from_is_err_and c.from_residual-in_err-test_top.result c.from_residual-in_err-test_top.ensures.1 in
-    rw (p.1, p.2) (caused_by_test _ _ c.in_err-test_top.field-0.0 (search (rules, c.walk_node.ensures.cause.kept, c.read.ensures.cause.kept, c.walk_node-2.ensures.cause.kept, c.walk_node-3.ensures.cause.kept)) c.in_err-test_top.ensures.cause)
-
 pub returns-in_err-walk_inodes-clause-answer : goal.returns-in_err-walk_inodes-clause-answer
 returns-in_err-walk_inodes-clause-answer g c = λ m s.
     let r = roots_of c.args.roots.now in
-    let s4 = shows_before c.args.shape _ _ m c.walk_inodes.ensures.reads s in
+    let s4 = shows_before c.args.shape _ _ m c.walk_inodes.ensures.carries.looks.reads s in
     let none = none_met c.args.shape.count _ c.in_ok-met.ensures in
-    let s3 = shows_before c.args.shape _ _ m c.walk_node-3.ensures.reads s4 in
-    let s2 = shows_before c.args.shape _ _ m c.walk_node-2.ensures.reads s3 in
-    let s1 = shows_before c.args.shape _ _ m c.read.ensures.reads s2 in
+    let s3 = shows_before c.args.shape _ _ m c.walk_node-3.ensures.follows.looks.reads s4 in
+    let s2 = shows_before c.args.shape _ _ m c.walk_node-2.ensures.follows.looks.reads s3 in
+    let s1 = shows_before c.args.shape _ _ m c.read.ensures.looks.reads s2 in
     let t1 = c.in_ok-walk_node.ensures.tests m s1 in
     let t2 = c.in_ok-longfile.ensures.tests m s3 in
     let t3 = c.in_ok-walk_node-2.ensures.tests m s4 in
@@ -85,11 +84,11 @@ returns-in_err-walk_inodes-clause-answer g c = λ m s.
 pub returns-clause-answer : goal.returns-clause-answer
 returns-clause-answer g c = λ m s.
     let r = roots_of c.args.roots.now in
-    let s4 = shows_before c.args.shape _ _ m c.walk_inodes.ensures.reads s in
+    let s4 = shows_before c.args.shape _ _ m c.walk_inodes.ensures.carries.looks.reads s in
     let none = none_met c.args.shape.count _ c.in_ok-met.ensures in
-    let s3 = shows_before c.args.shape _ _ m c.walk_node-3.ensures.reads s4 in
-    let s2 = shows_before c.args.shape _ _ m c.walk_node-2.ensures.reads s3 in
-    let s1 = shows_before c.args.shape _ _ m c.read.ensures.reads s2 in
+    let s3 = shows_before c.args.shape _ _ m c.walk_node-3.ensures.follows.looks.reads s4 in
+    let s2 = shows_before c.args.shape _ _ m c.walk_node-2.ensures.follows.looks.reads s3 in
+    let s1 = shows_before c.args.shape _ _ m c.read.ensures.looks.reads s2 in
     let t1 = c.in_ok-walk_node.ensures.tests m s1 in
     let t2 = c.in_ok-longfile.ensures.tests m s3 in
     let t3 = c.in_ok-walk_node-2.ensures.tests m s4 in
@@ -105,11 +104,11 @@ returns-clause-answer g c = λ m s.
 pub returns-clause-walked : goal.returns-clause-walked
 returns-clause-walked g c = λ m s.
     let r = roots_of c.args.roots.now in
-    let s4 = shows_before c.args.shape _ _ m c.walk_inodes.ensures.reads s in
+    let s4 = shows_before c.args.shape _ _ m c.walk_inodes.ensures.carries.looks.reads s in
     let none = none_met c.args.shape.count _ c.in_ok-met.ensures in
-    let s3 = shows_before c.args.shape _ _ m c.walk_node-3.ensures.reads s4 in
-    let s2 = shows_before c.args.shape _ _ m c.walk_node-2.ensures.reads s3 in
-    let s1 = shows_before c.args.shape _ _ m c.read.ensures.reads s2 in
+    let s3 = shows_before c.args.shape _ _ m c.walk_node-3.ensures.follows.looks.reads s4 in
+    let s2 = shows_before c.args.shape _ _ m c.walk_node-2.ensures.follows.looks.reads s3 in
+    let s1 = shows_before c.args.shape _ _ m c.read.ensures.looks.reads s2 in
     let t1 = c.in_ok-walk_node.ensures.tests m s1 in
     let t2 = c.in_ok-longfile.ensures.tests m s3 in
     let t3 = c.in_ok-walk_node-2.ensures.tests m s4 in
@@ -125,8 +124,115 @@ returns-clause-walked g c = λ m s.
       none = ends.none;
       met = ends.met;
       inodes = holds;
-      reached = λ n some there. ap (λ (set : Members). has set (n - 1)) c.into_listed.ensures ∙ ends.reached n some (omega (arith, there, c.walk_inodes.ensures.listing.limit, c.in_ok-table.ensures.places));
-      live = c.count.ensures.queued _ c.walk_inodes.ensures.listing ∙ ends.live;
+      reached = λ n some there. ap (λ (set : Members). has set (n - 1)) c.into_listed.ensures ∙ ends.reached n some (omega (arith, there, c.walk_inodes.ensures.carries.listing.limit, c.in_ok-table.ensures.places));
+      live = c.count.ensures.queued _ c.walk_inodes.ensures.carries.listing ∙ ends.live;
       notes = ends.notes;
       long = c.bad.ensures m c.args.roots.now.longfile ends.numbers (shown_size c.args.shape _ m s) ends.longs ∙ ends.named;
+    }
+
+pub returns-in_err-table-clause-looks : goal.returns-in_err-table-clause-looks
+returns-in_err-table-clause-looks g c =
+    let shape = c.args.shape in
+    let limit = first_limit shape c.in_ok-met.met c.walk_node.new.met c.in_ok-met.ensures c.walk_node.ensures.follows.limit in
+    let leaves = first_leaves c.in_ok-met.met c.walk_node.new.met c.walk_node.new.leaves.items c.deref.result.now c.deref.ensures.value c.walk_node.ensures.follows.few in
+    let a1 = read_first shape c.in_ok-met.met c.walk_node.new.met _ _ (g.D.Dev.outside c.args.host.now) (g.D.Dev.outside c.walk_node.new.host) _ c.in_ok-walk_node.ensures.follows in
+    let p = err_from_is_err_and c.from_residual-in_err-table.result c.from_residual-in_err-table.ensures.1 in
+    rw (p.1, p.2) (read_halts shape c.walk_node.new.met (length c.deref.result.now) (g.D.Dev.outside c.args.host.now) (g.D.Dev.outside c.read.new.host) c.in_err-table.field-0.0 limit leaves (read_leaves shape c.walk_node.new.met (length c.deref.result.now) (g.D.Dev.outside c.args.host.now) (g.D.Dev.outside c.walk_node.new.host) (g.D.Dev.outside c.read.new.host) _ _ a1 c.in_err-table.ensures.looks))
+
+pub returns-in_err-longfile-clause-looks : goal.returns-in_err-longfile-clause-looks
+returns-in_err-longfile-clause-looks g c =
+    let shape = c.args.shape in
+    let limit = first_limit shape c.in_ok-met.met c.walk_node.new.met c.in_ok-met.ensures c.walk_node.ensures.follows.limit in
+    let leaves = first_leaves c.in_ok-met.met c.walk_node.new.met c.walk_node.new.leaves.items c.deref.result.now c.deref.ensures.value c.walk_node.ensures.follows.few in
+    let a1 = read_first shape c.in_ok-met.met c.walk_node.new.met _ _ (g.D.Dev.outside c.args.host.now) (g.D.Dev.outside c.walk_node.new.host) _ c.in_ok-walk_node.ensures.follows in
+    let a2 = read_leaves shape c.walk_node.new.met (length c.deref.result.now) (g.D.Dev.outside c.args.host.now) (g.D.Dev.outside c.walk_node.new.host) (g.D.Dev.outside c.read.new.host) _ _ a1 c.in_ok-table.ensures.looks in
+    let p = err_from_is_err_and c.from_residual-in_err-longfile.result c.from_residual-in_err-longfile.ensures.1 in
+    rw (p.1, p.2) (read_halts shape c.walk_node-2.new.met (length c.deref.result.now) (g.D.Dev.outside c.args.host.now) (g.D.Dev.outside c.walk_node-2.new.host) c.in_err-longfile.field-0.0 (c.walk_node-2.ensures.follows.limit ∙ limit) (omega (arith, leaves, c.walk_node-2.ensures.follows.more)) (read_next shape c.walk_node.new.met c.walk_node-2.new.met (length c.deref.result.now) _ _ (g.D.Dev.outside c.args.host.now) (g.D.Dev.outside c.read.new.host) (g.D.Dev.outside c.walk_node-2.new.host) _ _ a2 c.in_err-longfile.ensures.follows))
+
+pub returns-in_err-longs-clause-looks : goal.returns-in_err-longs-clause-looks
+returns-in_err-longs-clause-looks g c =
+    let shape = c.args.shape in
+    let limit = first_limit shape c.in_ok-met.met c.walk_node.new.met c.in_ok-met.ensures c.walk_node.ensures.follows.limit in
+    let leaves = first_leaves c.in_ok-met.met c.walk_node.new.met c.walk_node.new.leaves.items c.deref.result.now c.deref.ensures.value c.walk_node.ensures.follows.few in
+    let a1 = read_first shape c.in_ok-met.met c.walk_node.new.met _ _ (g.D.Dev.outside c.args.host.now) (g.D.Dev.outside c.walk_node.new.host) _ c.in_ok-walk_node.ensures.follows in
+    let a2 = read_leaves shape c.walk_node.new.met (length c.deref.result.now) (g.D.Dev.outside c.args.host.now) (g.D.Dev.outside c.walk_node.new.host) (g.D.Dev.outside c.read.new.host) _ _ a1 c.in_ok-table.ensures.looks in
+    let a3 = read_next shape c.walk_node.new.met c.walk_node-2.new.met (length c.deref.result.now) _ _ (g.D.Dev.outside c.args.host.now) (g.D.Dev.outside c.read.new.host) (g.D.Dev.outside c.walk_node-2.new.host) _ _ a2 c.in_ok-longfile.ensures.follows in
+    let p = err_from_is_err_and c.from_residual-in_err-longs.result c.from_residual-in_err-longs.ensures.1 in
+    rw (p.1, p.2) (read_other shape c.walk_node-2.new.met (length c.deref.result.now) (g.D.Dev.outside c.args.host.now) (g.D.Dev.outside c.walk_node-2.new.host) _ c.in_err-longs.field-0.0 (c.walk_node-2.ensures.follows.limit ∙ limit) (omega (arith, leaves, c.walk_node-2.ensures.follows.more)) (no_memory c.in_err-longs.field-0.0 c.in_err-longs.ensures.no_fault) a3)
+
+pub returns-in_err-walk_node-2-clause-looks : goal.returns-in_err-walk_node-2-clause-looks
+returns-in_err-walk_node-2-clause-looks g c =
+    let shape = c.args.shape in
+    let limit = first_limit shape c.in_ok-met.met c.walk_node.new.met c.in_ok-met.ensures c.walk_node.ensures.follows.limit in
+    let leaves = first_leaves c.in_ok-met.met c.walk_node.new.met c.walk_node.new.leaves.items c.deref.result.now c.deref.ensures.value c.walk_node.ensures.follows.few in
+    let a1 = read_first shape c.in_ok-met.met c.walk_node.new.met _ _ (g.D.Dev.outside c.args.host.now) (g.D.Dev.outside c.walk_node.new.host) _ c.in_ok-walk_node.ensures.follows in
+    let a2 = read_leaves shape c.walk_node.new.met (length c.deref.result.now) (g.D.Dev.outside c.args.host.now) (g.D.Dev.outside c.walk_node.new.host) (g.D.Dev.outside c.read.new.host) _ _ a1 c.in_ok-table.ensures.looks in
+    let a3 = read_next shape c.walk_node.new.met c.walk_node-2.new.met (length c.deref.result.now) _ _ (g.D.Dev.outside c.args.host.now) (g.D.Dev.outside c.read.new.host) (g.D.Dev.outside c.walk_node-2.new.host) _ _ a2 c.in_ok-longfile.ensures.follows in
+    let p = err_from_is_err_and c.from_residual-in_err-walk_node-2.result c.from_residual-in_err-walk_node-2.ensures.1 in
+    rw (p.1, p.2) (read_halts shape c.walk_node-3.new.met (length c.deref.result.now) (g.D.Dev.outside c.args.host.now) (g.D.Dev.outside c.walk_node-3.new.host) c.in_err-walk_node-2.field-0.0 (c.walk_node-3.ensures.follows.limit ∙ c.walk_node-2.ensures.follows.limit ∙ limit) (omega (arith, leaves, c.walk_node-2.ensures.follows.more, c.walk_node-3.ensures.follows.more)) (read_next shape c.walk_node-2.new.met c.walk_node-3.new.met (length c.deref.result.now) _ _ (g.D.Dev.outside c.args.host.now) (g.D.Dev.outside c.walk_node-2.new.host) (g.D.Dev.outside c.walk_node-3.new.host) _ _ a3 c.in_err-walk_node-2.ensures.follows))
+
+pub returns-in_err-test_top-clause-looks : goal.returns-in_err-test_top-clause-looks
+returns-in_err-test_top-clause-looks g c =
+    let shape = c.args.shape in
+    let limit = first_limit shape c.in_ok-met.met c.walk_node.new.met c.in_ok-met.ensures c.walk_node.ensures.follows.limit in
+    let leaves = first_leaves c.in_ok-met.met c.walk_node.new.met c.walk_node.new.leaves.items c.deref.result.now c.deref.ensures.value c.walk_node.ensures.follows.few in
+    let a1 = read_first shape c.in_ok-met.met c.walk_node.new.met _ _ (g.D.Dev.outside c.args.host.now) (g.D.Dev.outside c.walk_node.new.host) _ c.in_ok-walk_node.ensures.follows in
+    let a2 = read_leaves shape c.walk_node.new.met (length c.deref.result.now) (g.D.Dev.outside c.args.host.now) (g.D.Dev.outside c.walk_node.new.host) (g.D.Dev.outside c.read.new.host) _ _ a1 c.in_ok-table.ensures.looks in
+    let a3 = read_next shape c.walk_node.new.met c.walk_node-2.new.met (length c.deref.result.now) _ _ (g.D.Dev.outside c.args.host.now) (g.D.Dev.outside c.read.new.host) (g.D.Dev.outside c.walk_node-2.new.host) _ _ a2 c.in_ok-longfile.ensures.follows in
+    let a4 = read_next shape c.walk_node-2.new.met c.walk_node-3.new.met (length c.deref.result.now) _ _ (g.D.Dev.outside c.args.host.now) (g.D.Dev.outside c.walk_node-2.new.host) (g.D.Dev.outside c.walk_node-3.new.host) _ _ a3 c.in_ok-walk_node-2.ensures.follows in
+    let p = err_from_is_err_and c.from_residual-in_err-test_top.result c.from_residual-in_err-test_top.ensures.1 in
+    rw (p.1, p.2) (read_other shape c.walk_node-3.new.met (length c.deref.result.now) (g.D.Dev.outside c.args.host.now) (g.D.Dev.outside c.walk_node-3.new.host) _ c.in_err-test_top.field-0.0 (c.walk_node-3.ensures.follows.limit ∙ c.walk_node-2.ensures.follows.limit ∙ limit) (omega (arith, leaves, c.walk_node-2.ensures.follows.more, c.walk_node-3.ensures.follows.more)) c.in_err-test_top.ensures.no_fault a4)
+
+pub returns-in_err-listing-clause-looks : goal.returns-in_err-listing-clause-looks
+returns-in_err-listing-clause-looks g c =
+    let shape = c.args.shape in
+    let limit = first_limit shape c.in_ok-met.met c.walk_node.new.met c.in_ok-met.ensures c.walk_node.ensures.follows.limit in
+    let leaves = first_leaves c.in_ok-met.met c.walk_node.new.met c.walk_node.new.leaves.items c.deref.result.now c.deref.ensures.value c.walk_node.ensures.follows.few in
+    let a1 = read_first shape c.in_ok-met.met c.walk_node.new.met _ _ (g.D.Dev.outside c.args.host.now) (g.D.Dev.outside c.walk_node.new.host) _ c.in_ok-walk_node.ensures.follows in
+    let a2 = read_leaves shape c.walk_node.new.met (length c.deref.result.now) (g.D.Dev.outside c.args.host.now) (g.D.Dev.outside c.walk_node.new.host) (g.D.Dev.outside c.read.new.host) _ _ a1 c.in_ok-table.ensures.looks in
+    let a3 = read_next shape c.walk_node.new.met c.walk_node-2.new.met (length c.deref.result.now) _ _ (g.D.Dev.outside c.args.host.now) (g.D.Dev.outside c.read.new.host) (g.D.Dev.outside c.walk_node-2.new.host) _ _ a2 c.in_ok-longfile.ensures.follows in
+    let a4 = read_next shape c.walk_node-2.new.met c.walk_node-3.new.met (length c.deref.result.now) _ _ (g.D.Dev.outside c.args.host.now) (g.D.Dev.outside c.walk_node-2.new.host) (g.D.Dev.outside c.walk_node-3.new.host) _ _ a3 c.in_ok-walk_node-2.ensures.follows in
+    let p = err_from_is_err_and c.from_residual-in_err-listing.result c.from_residual-in_err-listing.ensures.1 in
+    rw (p.1, p.2) (read_other shape c.walk_node-3.new.met (length c.deref.result.now) (g.D.Dev.outside c.args.host.now) (g.D.Dev.outside c.walk_node-3.new.host) _ c.in_err-listing.field-0.0 (c.walk_node-3.ensures.follows.limit ∙ c.walk_node-2.ensures.follows.limit ∙ limit) (omega (arith, leaves, c.walk_node-2.ensures.follows.more, c.walk_node-3.ensures.follows.more)) (no_memory c.in_err-listing.field-0.0 c.in_err-listing.ensures.no_fault) a4)
+
+pub returns-in_err-walk_inodes-clause-looks : goal.returns-in_err-walk_inodes-clause-looks
+returns-in_err-walk_inodes-clause-looks g c =
+    let shape = c.args.shape in
+    let limit = first_limit shape c.in_ok-met.met c.walk_node.new.met c.in_ok-met.ensures c.walk_node.ensures.follows.limit in
+    let leaves = first_leaves c.in_ok-met.met c.walk_node.new.met c.walk_node.new.leaves.items c.deref.result.now c.deref.ensures.value c.walk_node.ensures.follows.few in
+    let a1 = read_first shape c.in_ok-met.met c.walk_node.new.met _ _ (g.D.Dev.outside c.args.host.now) (g.D.Dev.outside c.walk_node.new.host) _ c.in_ok-walk_node.ensures.follows in
+    let a2 = read_leaves shape c.walk_node.new.met (length c.deref.result.now) (g.D.Dev.outside c.args.host.now) (g.D.Dev.outside c.walk_node.new.host) (g.D.Dev.outside c.read.new.host) _ _ a1 c.in_ok-table.ensures.looks in
+    let a3 = read_next shape c.walk_node.new.met c.walk_node-2.new.met (length c.deref.result.now) _ _ (g.D.Dev.outside c.args.host.now) (g.D.Dev.outside c.read.new.host) (g.D.Dev.outside c.walk_node-2.new.host) _ _ a2 c.in_ok-longfile.ensures.follows in
+    let a4 = read_next shape c.walk_node-2.new.met c.walk_node-3.new.met (length c.deref.result.now) _ _ (g.D.Dev.outside c.args.host.now) (g.D.Dev.outside c.walk_node-2.new.host) (g.D.Dev.outside c.walk_node-3.new.host) _ _ a3 c.in_ok-walk_node-2.ensures.follows in
+    let p = err_from_is_err_and c.from_residual-in_err-walk_inodes.result c.from_residual-in_err-walk_inodes.ensures.1 in
+    rw (p.1, p.2) (looks_err halts.Device 0 (tree_reads shape) 0 (tree_reads shape) (g.D.Dev.outside c.args.host.now) (g.D.Dev.outside c.walk_inodes.new.host) c.in_err-walk_inodes.field-0.0 (omega arith)
+    (read_inodes shape c.in_ok-table.table _ c.walk_inodes.new.way _ c.walk_inodes.new.seen (length c.deref.result.now) c.args.roots.now.inodes (g.D.Dev.outside c.args.host.now) (g.D.Dev.outside c.walk_node-3.new.host) (g.D.Dev.outside c.walk_inodes.new.host) _ _ (omega (arith, leaves, c.walk_node-2.ensures.follows.more, c.walk_node-3.ensures.follows.more)) c.in_ok-table.ensures.places (c.in_ok-walk_node.ensures.bounded refl) a4 c.in_err-walk_inodes.ensures.carries))
+
+pub returns-clause-looks : goal.returns-clause-looks
+returns-clause-looks g c =
+    let shape = c.args.shape in
+    let limit = first_limit shape c.in_ok-met.met c.walk_node.new.met c.in_ok-met.ensures c.walk_node.ensures.follows.limit in
+    let leaves = first_leaves c.in_ok-met.met c.walk_node.new.met c.walk_node.new.leaves.items c.deref.result.now c.deref.ensures.value c.walk_node.ensures.follows.few in
+    let a1 = read_first shape c.in_ok-met.met c.walk_node.new.met _ _ (g.D.Dev.outside c.args.host.now) (g.D.Dev.outside c.walk_node.new.host) _ c.in_ok-walk_node.ensures.follows in
+    let a2 = read_leaves shape c.walk_node.new.met (length c.deref.result.now) (g.D.Dev.outside c.args.host.now) (g.D.Dev.outside c.walk_node.new.host) (g.D.Dev.outside c.read.new.host) _ _ a1 c.in_ok-table.ensures.looks in
+    let a3 = read_next shape c.walk_node.new.met c.walk_node-2.new.met (length c.deref.result.now) _ _ (g.D.Dev.outside c.args.host.now) (g.D.Dev.outside c.read.new.host) (g.D.Dev.outside c.walk_node-2.new.host) _ _ a2 c.in_ok-longfile.ensures.follows in
+    let a4 = read_next shape c.walk_node-2.new.met c.walk_node-3.new.met (length c.deref.result.now) _ _ (g.D.Dev.outside c.args.host.now) (g.D.Dev.outside c.walk_node-2.new.host) (g.D.Dev.outside c.walk_node-3.new.host) _ _ a3 c.in_ok-walk_node-2.ensures.follows in
+    looks_ok halts.Device 0 (tree_reads shape) 0 (tree_reads shape) (g.D.Dev.outside c.args.host.now) (g.D.Dev.outside c.walk_inodes.new.host) _ _ (omega arith)
+    (read_inodes shape c.in_ok-table.table _ c.walk_inodes.new.way _ c.walk_inodes.new.seen (length c.deref.result.now) c.args.roots.now.inodes (g.D.Dev.outside c.args.host.now) (g.D.Dev.outside c.walk_node-3.new.host) (g.D.Dev.outside c.walk_inodes.new.host) _ _ (omega (arith, leaves, c.walk_node-2.ensures.follows.more, c.walk_node-3.ensures.follows.more)) c.in_ok-table.ensures.places (c.in_ok-walk_node.ensures.bounded refl) a4 c.in_ok-walk_inodes.ensures.carries)
+
+pub walk_node-requires-3-clause-fits : goal.walk_node-requires-3-clause-fits
+walk_node-requires-3-clause-fits g c =
+    fits_still c.args.shape (g.D.Dev.outside c.read.new.host) (g.D.Dev.outside c.walk_node-2.new.host) c.walk_node-2.ensures.follows.looks.reads (fits_still c.args.shape (g.D.Dev.outside c.walk_node.new.host) (g.D.Dev.outside c.read.new.host) c.read.ensures.looks.reads (fits_still c.args.shape (g.D.Dev.outside c.args.host.now) (g.D.Dev.outside c.walk_node.new.host) c.walk_node.ensures.follows.looks.reads c.requires.fits))
+
+pub walk_inodes-requires : goal.walk_inodes-requires
+walk_inodes-requires g c =
+    let shape = c.args.shape in
+    let limit = first_limit shape c.in_ok-met.met c.walk_node.new.met c.in_ok-met.ensures c.walk_node.ensures.follows.limit in
+    record {
+      underway = record {
+        met = c.walk_node-3.ensures.follows.limit ∙ c.walk_node-2.ensures.follows.limit ∙ limit;
+        inside = c.in_ok-longs.ensures.inside;
+        listing = subst (λ n. IsListing n c.in_ok-listing.listing) c.places.ensures c.in_ok-listing.ensures.listing;
+        fits = fits_still shape (g.D.Dev.outside c.walk_node-2.new.host) (g.D.Dev.outside c.walk_node-3.new.host) c.walk_node-3.ensures.follows.looks.reads (fits_still c.args.shape (g.D.Dev.outside c.read.new.host) (g.D.Dev.outside c.walk_node-2.new.host) c.walk_node-2.ensures.follows.looks.reads (fits_still c.args.shape (g.D.Dev.outside c.walk_node.new.host) (g.D.Dev.outside c.read.new.host) c.read.ensures.looks.reads (fits_still c.args.shape (g.D.Dev.outside c.args.host.now) (g.D.Dev.outside c.walk_node.new.host) c.walk_node.ensures.follows.looks.reads c.requires.fits)));
+      };
     }

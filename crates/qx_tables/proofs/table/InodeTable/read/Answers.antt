@@ -11,7 +11,7 @@ use Rattle.qx_nodes.specs.Leaves.{leaves_below}
 use Rattle.qx_tables.proofs.FilledLeaves.{IsFilled, fill_none, fill_run, filled_all}
 use Rattle.qx_tables.proofs.LeafLists.{listed_ascend}
 use Rattle.qx_tables.proofs.LeafRuns.{run_blocks, run_room}
-use Rattle.qx_pointers.proofs.ShownBlocks.{reads_none, reads_then, shown_size, shows_before}
+use Rattle.qx_pointers.proofs.ShownBlocks.{reads_then, shown_size, shows_before}
 use Rattle.qx_pointers.specs.declared.node.LeafPlace.{LeafPlace}
 use Rattle.qx_tables.specs.Tables.{IsApart, leaf_in, leaf_range}
 use Rattle.qx_tables.proofs.table.InodeTable.read.Goals as goal
@@ -23,8 +23,7 @@ loop-at-init g c =
       filled = λ m s up. fill_none m c.div_ceil-count.result c.args.leaves.now c.in_ok-bytes.bytes.items (zeros ∙ ap (λ k. replicate (c.div_ceil-count.result * k) 0) (sym (ap (λ (b : BlockMap). b.size) s.is)));
       long = ap (λ (l : List ℕ). length l) zeros ∙ length-replicate (c.div_ceil-count.result * c.args.shape.blocksize) 0;
       taken = omega arith;
-      fits = c.requires.fits;
-      reads = reads_none _;
+      reads = search (rules, arith);
       faults = search rules;
     }
 
@@ -55,7 +54,7 @@ loop-at-preserved g c =
     record {
       filled = λ m s up.
           let size : m.size ≡ c.args.shape.blocksize = shown_size c.args.shape (g.D.Dev.outside c.read_run.new.host) m s in
-          let before : IsFilled m c.div_ceil-count.result leaves at old = c.loop-at.invariant.filled m (shows_before c.args.shape _ _ m c.in_ok-read_run.ensures.reads s) up in
+          let before : IsFilled m c.div_ceil-count.result leaves at old = c.loop-at.invariant.filled m (shows_before c.args.shape _ _ m c.in_ok-read_run.ensures.looks.reads s) up in
           let here : (k : ℕ) → k < run → leaf_range m.size new (first.index + k) ≡ m.bytes (first.block + k)
           = λ k low. subst (λ n. leaf_range n new (first.index + k) ≡ m.bytes (first.block + k)) (sym size) (c.in_ok-read_run.ensures.leaves m s k low) in
           let others : (i : ℕ) → IsApart first.index run i → leaf_range m.size new i ≡ leaf_range m.size old i
@@ -64,9 +63,8 @@ loop-at-preserved g c =
           (fill_run m c.div_ceil-count.result leaves at run old new up c.run_length-run.ensures.run before here others);
       long = ap (λ (l : List ℕ). length l) written ∙ long ∙ c.loop-at.invariant.long;
       taken = c.run_length-run.ensures.run.inside;
-      fits = c.in_ok-read_run.ensures.fits;
-      reads = reads_then _ _ _ c.loop-at.invariant.reads c.in_ok-read_run.ensures.reads;
-      faults = search (rules, c.in_ok-read_run.ensures.cause.kept, c.loop-at.invariant.faults);
+      reads = reads_then 0 at 0 1 0 (at + run) _ _ _ (omega (arith, c.run_length-run.ensures.run.some)) c.loop-at.invariant.reads c.in_ok-read_run.ensures.looks.reads;
+      faults = search (rules, c.in_ok-read_run.ensures.looks.cause.kept, c.loop-at.invariant.faults);
     }
 
 pub returns-clause-holds : goal.returns-clause-holds

@@ -3,7 +3,7 @@ use Rattle.qx_geom.specs.Lists.{IsAscending}
 use Rattle.qx_nodes.specs.BlockMap.{BlockMap}
 use Rattle.qx_tables.proofs.FilledLeaves.{IsFilled}
 use Rattle.qx_tables.proofs.LeafLists.{numbers_of}
-use Rattle.qx_pointers.specs.Shown.{Fits, JustReads, Shows}
+use Rattle.qx_pointers.specs.Shown.{JustReads, Shows}
 use Rattle.qx_tables.proofs.table.InodeTable.read.Given as goal
 
 -- the leaves so far stand in their places, and the others are 0
@@ -12,8 +12,7 @@ invariant-loop-at g l = record {
   filled : (m : BlockMap) → Shows l.fn.shape (g.D.Dev.outside l.host) m → IsAscending (numbers_of l.leaves) → IsFilled m l.count l.leaves l.at l.bytes.items;
   long : length l.bytes.items ≡ l.count * l.fn.shape.blocksize;
   taken : l.at ≤ length l.leaves;
-  fits : Fits l.fn.shape (g.D.Dev.outside l.host);
-  reads : JustReads (g.D.Dev.outside l.fn.host) (g.D.Dev.outside l.host);
+  reads : JustReads 0 l.at (g.D.Dev.outside l.fn.host) (g.D.Dev.outside l.host);
   faults : (g.D.Dev.outside l.host).dev_faults ≡ (g.D.Dev.outside l.fn.host).dev_faults;
 }
 
