@@ -1,11 +1,11 @@
 -- Counts of faults, and the failures that they explain.
 use Rattle.std.specs.Prelude.{◌≡◌, IfSome, ℕ, ◌+◌, ◌-◌, ◌≤◌, ◌^◌, min, Option, None, Some, Result, Err, OnErr, OnOk}
 
--- the count rose, or stands at its last value
+-- the count rose by one, or stands at its last value
 abbrev pub Rose : ℕ → ℕ → Type 0
-Rose before now = min (before + 1) (2 ^ 64 - 1) ≤ now
+Rose before now = now ≡ min (before + 1) (2 ^ 64 - 1)
 
--- the count never falls, an `Err` comes only where it rose, and an `Ok` only where it stands
+-- the count never falls, an `Err` comes only where it rose, by one failure alone, and an `Ok` only where it stands
 pub record HasCause {T E : Type 0} (before now : ℕ) (result : Result T E) : Type 0 where
   pub later : before ≤ now
   pub failed : OnErr result (Rose before now)

@@ -79,7 +79,7 @@ pub fn checked_need<B: Blocks>(
     ensures keeps { Keeps (B.state blocks.old) (B.state blocks.new) }
     ensures node { IsNode order (B.state blocks.new) node.now }
     ensures consistent { OnOk result (IsConsistent (B.state blocks.new)) }
-    ensures later { (B.beside blocks.old).faults ≤ (B.beside blocks.new).faults }
+    ensures kept { OnOk result ((B.beside blocks.new).faults ≡ (B.beside blocks.old).faults) }
     ensures long { length node.now.pointers ≡ 16 }
     ensures aside { (B.beside blocks.new).aside ≡ (B.beside blocks.old).aside }
 {

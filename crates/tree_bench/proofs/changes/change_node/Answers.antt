@@ -36,4 +36,4 @@ pub returns-in_err-p-clause-reason : goal.returns-in_err-p-clause-reason
 returns-in_err-p-clause-reason g c =
     let p = err_from_is_err_and c.from_residual-in_err-p.result c.from_residual-in_err-p.ensures.1 in
     rw (p.1, p.2) (stopped c.args.order (g.B.Blocks.state c.args.blocks.now) c.args.node.now c.args.change.now (g.B.Blocks.state c.prepare.new.blocks).tells (g.B.Blocks.beside c.args.blocks.now).faults
-    (g.B.Blocks.beside c.checked_need.new.blocks).faults (g.B.Blocks.beside c.prepare.new.blocks).faults c.in_err-p.field-0.0 c.checked_need.ensures.later (λ e. c.in_err-p.ensures.others.cause.failed (ap (λ s. Err s) e)))
+    (g.B.Blocks.beside c.checked_need.new.blocks).faults (g.B.Blocks.beside c.prepare.new.blocks).faults c.in_err-p.field-0.0 c.in_ok-takes.ensures.kept (λ e. c.in_err-p.ensures.others.cause.failed (ap (λ s. Err s) e)))
