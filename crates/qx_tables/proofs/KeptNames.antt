@@ -65,10 +65,3 @@ pub more_names : {K : Type 0} (bytes : K → List ℕ) (olds news : List K) (key
     → news ≡ insert_key (key_cmp bytes) olds key → bytes key ≡ name → (n : List ℕ) → has_name (map bytes news) n ≡ has_name (name ∷ names) n
 more_names bytes olds news key name names h e same n =
     ap (λ ks. has_name (map bytes ks) n) e ∙ inserted_name bytes key olds n ∙ ap (λ b. bytes_eq (bytes key) n || b) (h n) ∙ ap (λ (x : List ℕ). bytes_eq x n || has_name names n) same
-
--- a name that is there already makes no difference
-pub again_named : (name : List ℕ) (names : List (List ℕ)) → has_name names name ≡ true → (n : List ℕ) → has_name names n ≡ has_name (name ∷ names) n
-again_named name names there n = elim (cases_Bool (bytes_eq name n)) [
-  | inl equal ↦ let is : name ≡ n = (bytes_eq-Decides name n).0 equal in ap (has_name names) (sym is) ∙ there ∙ sym (ap (λ b. b || has_name names n) equal)
-  | inr differ ↦ sym (ap (λ b. b || has_name names n) differ)
-]

@@ -33,15 +33,11 @@ impl Names {
         ensures names { (names : List (List ℕ)) → HasNames self.old names → OnOk result (HasNames self.new (name.now ∷ names)) }
         ensures no_fault { OnErr result (result ≡ Err halts.NoMemory) }
     {
-        if self.names.contains(name) {
-            return Ok(false);
-        }
         let key = name.to_vec(self.alloc)?;
         match self.names.insert(key) {
-            Ok(_) => {}
-            Err(_) => return Err(Halt::NoMemory),
+            Ok(new) => Ok(new),
+            Err(_) => Err(Halt::NoMemory),
         }
-        Ok(true)
     }
 
     /// Forgets all names.

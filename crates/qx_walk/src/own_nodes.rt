@@ -19,6 +19,9 @@ use qx_geom::{Root, levels};
 use qx_outside::Dev;
 use qx_pointers::{Halt, Part, Shape, Visitor, read_block_from, walk_node};
 
+/// As many bytes 0 as a block may have.
+const ZEROS: [u8; 4096] = [0; 4096];
+
 /// Walks the node of inode n, and notes where it isn't as this project writes it.
 pub(crate) fn walk_own_node<D: Dev>(
     host: &mut D,
@@ -49,7 +52,7 @@ pub(crate) fn walk_own_node<D: Dev>(
         keeps,
     };
     let part = walk_node(host, &visitor, node, &mut way.met, &mut way.leaves)?;
-    let tail = has_tail(host, shape, node, part)?;
+    let tail = has_tail(host, shape, node, part, &mut way.tail)?;
     way.notes.nodes = noted(way.notes.nodes, is_foreign_node(shape, node, part), n);
     way.notes.tails = noted(way.notes.tails, tail, n);
     Ok(part)
@@ -83,8 +86,14 @@ pub(crate) fn noted(before: Option<u32>, fails: bool, n: u32) -> Option<u32>
     }
 }
 
-/// Whether a byte past a node's size, in its last leaf, isn't 0.
-fn has_tail<D: Dev>(host: &mut D, shape: Shape, node: &Root, part: Part) -> Result<bool, Halt>
+/// Whether a byte past a node's size, in its last leaf, isn't 0. The buffer takes these bytes.
+fn has_tail<D: Dev>(
+    host: &mut D,
+    shape: Shape,
+    node: &Root,
+    part: Part,
+    buffer: &mut [u8; 4096],
+) -> Result<bool, Halt>
     requires end { IfSome part.end (λ block. block < shape.count) }
     requires fits { Fits shape (D.outside host.old) }
     ensures tail { (m : BlockMap) → Shows shape (D.outside host.new) m → IfOk result (λ tail. tail ≡ tail_at m (node.now.size % m.size) part.end) }
@@ -97,7 +106,6 @@ fn has_tail<D: Dev>(host: &mut D, shape: Shape, node: &Root, part: Part) -> Resu
     if past == 0 {
         return Ok(false);
     }
-    let mut buffer = [0; 4096];
     let tail = &mut buffer[0..shape.blocksize as usize - past];
     read_block_from(host, shape, block, past, tail)?;
     Ok(!is_zero(tail))
@@ -105,7 +113,8 @@ fn has_tail<D: Dev>(host: &mut D, shape: Shape, node: &Root, part: Part) -> Resu
 
 /// Whether all bytes are 0.
 fn is_zero(bytes: &[u8]) -> bool
+    requires { length bytes.now ≤ 4096 }
     ensures { result ≡ are_zero bytes.now }
 {
-    bytes.iter().all(|byte| *byte == 0)
+    bytes == &ZEROS[..bytes.len()]
 }

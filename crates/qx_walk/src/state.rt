@@ -65,6 +65,8 @@ pub(crate) struct Way {
     /// The leaves of the directory under the walk.
     pub(crate) leaves: Vec<LeafPlace>,
     pub(crate) notes: Notes,
+    // Room for the bytes past a node's size.
+    pub(crate) tail: [u8; 4096],
 }
 
 /// A tree that was walked without a finding.

@@ -66,7 +66,12 @@ pub fn walk_tree<D: Dev>(
         tails: noted(None, tail, 0),
     };
     let listing = Listing::new(alloc, table.places())?;
-    let mut way = Way { met, leaves, notes };
+    let mut way = Way {
+        met,
+        leaves,
+        notes,
+        tail: [0; 4096],
+    };
     let mut seen = Seen {
         names: Names::new(alloc),
         longs,
