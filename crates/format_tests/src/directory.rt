@@ -23,7 +23,8 @@ fn used_records(block: &[u8], order: Order) -> usize
 /// The place of the first record of a block that is not in use: a loop that ends early.
 fn first_unused(block: &[u8], order: Order) -> Option<usize>
     requires { length block.now % 32 ≡ 0 }
-    ensures { result ≡ option_map (λ item. item.place) (find (λ item. not (is_in_use item)) (records_in order block.now)) }
+    ensures { result
+        ≡ option_map (λ item. item.place) (find (λ item. not (is_in_use item)) (records_in order block.now)) }
 {
     for record in Records::new(block, order) {
         if let Slot::Unused = record.slot {

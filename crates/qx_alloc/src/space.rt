@@ -79,7 +79,8 @@ impl Space {
     /// Gives up the working tree's hold of a block, where it has one.
     pub fn give_back(&mut self, b: u32)
         ensures given { self.new ≡ without self.old b }
-        ensures free { free_in self.new ≡ (if is_private_in self.old b then free_in self.old + 1 else free_in self.old) }
+        ensures free { free_in self.new
+            ≡ (if is_private_in self.old b then free_in self.old + 1 else free_in self.old) }
         ensures consistent { IsConsistent self.new }
     {
         if self.is_private(b) {

@@ -112,7 +112,8 @@ impl BlockSet {
 
     /// The least number from `from` on that is not in the set.
     pub fn first_absent(&self, from: u32) -> Option<u32>
-        ensures absent { IfSome result (λ b. (from ≤ b) × (b < limit_of self.now) × (has self.now b ≡ false)) }
+        ensures absent { IfSome result (λ b. (from ≤ b) × (b < limit_of self.now)
+            × (has self.now b ≡ false)) }
         ensures least { IfSome result (λ b. HasAll self.now from b) }
         ensures none { IfNone result (HasAll self.now from (limit_of self.now)) }
     {
@@ -144,7 +145,8 @@ fn bits_below(from: u32, place: usize) -> u64
 fn unite(words: &mut [u64], others: &[u64]) -> u64
     requires long { length others.now ≡ length words.old }
     requires few { length words.old ≤ 2 ^ 26 }
-    ensures words { (k : ℕ) → k < length words.old → slice_index words.new k ≡ bit_or (slice_index words.old k) (slice_index others.now k) }
+    ensures words { (k : ℕ) → k < length words.old
+        → slice_index words.new k ≡ bit_or (slice_index words.old k) (slice_index others.now k) }
     ensures fit { (k : ℕ) → slice_index words.new k < 2 ^ 64 }
     ensures ones { result ≡ sum_by count_ones words.new }
 {

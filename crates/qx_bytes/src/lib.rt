@@ -18,9 +18,11 @@ pub fn what_is_put_stands_there()
 
 /// A range or a byte that lies before or behind the place stays.
 pub fn what_lies_apart_stays()
-    ensures range { (bytes others : List ℕ) (at k n : ℕ) → at ≤ length bytes → (k + n ≤ at) ⊎ (at + length others ≤ k)
+    ensures range { (bytes others : List ℕ) (at k n : ℕ) → at ≤ length bytes
+        → (k + n ≤ at) ⊎ (at + length others ≤ k)
         → slice_range (put_at bytes at others) k (k + n) ≡ slice_range bytes k (k + n) }
-    ensures byte { (bytes others : List ℕ) (at k : ℕ) → at ≤ length bytes → (k < at) ⊎ (at + length others ≤ k)
+    ensures byte { (bytes others : List ℕ) (at k : ℕ) → at ≤ length bytes
+        → (k < at) ⊎ (at + length others ≤ k)
         → slice_index (put_at bytes at others) k ≡ slice_index bytes k }
 {}
 

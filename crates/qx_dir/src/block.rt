@@ -51,7 +51,8 @@ pub fn find(block: &[u8], order: Order, from: usize, name: &[u8]) -> Found
 fn named(place: usize, slot: Slot<'_>, name: &[u8], unsigned: u32, signed: u32) -> Option<Found>
     requires unsigned { unsigned ≡ name_sum_of name.now }
     requires signed { signed ≡ name_sum_signed_of name.now }
-    ensures { result ≡ (if may_have name.now (raw_of_slot slot.entry) then Some (found_as place (raw_of_slot slot.entry)) else None) }
+    ensures { result
+        ≡ (if may_have name.now (raw_of_slot slot.entry) then Some (found_as place (raw_of_slot slot.entry)) else None) }
 {
     match slot {
         Slot::Short { inode, name: other } if other == name => Some(Found::Name { place, inode }),
@@ -87,7 +88,8 @@ pub fn put(block: &mut [u8], order: Order, place: usize, inode: u32, name: &[u8]
     requires named { 0 < length name.now }
     requires short { length name.now ≤ 510 }
     ensures bytes { block.new ≡ put_at block.old (place * 32) (row_bytes order inode name.now number) }
-    ensures records { records_in order block.new ≡ slice_set (records_in order block.old) place (record { place = place; raw = row_of inode name.now number }) }
+    ensures records { records_in order block.new
+        ≡ slice_set (records_in order block.old) place (record { place = place; raw = row_of inode name.now number }) }
 {
     write_row(
         &mut block[place * 32..place * 32 + 32],
@@ -119,7 +121,8 @@ pub fn clear(block: &mut [u8], place: usize)
     requires whole { length block.old % 32 ≡ 0 }
     requires within { place < length block.old / 32 }
     ensures bytes { block.new ≡ put_at block.old (place * 32) (replicate 32 0) }
-    ensures records { (order : Order) → records_in order block.new ≡ slice_set (records_in order block.old) place (record { place = place; raw = Unused }) }
+    ensures records { (order : Order) → records_in order block.new
+        ≡ slice_set (records_in order block.old) place (record { place = place; raw = Unused }) }
 {
     write_unused(&mut block[place * 32..place * 32 + 32]);
 }

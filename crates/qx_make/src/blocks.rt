@@ -136,7 +136,8 @@ pub fn fill_blocks(volume: &NewVolume, first: u32, count: u32, into: &mut [u8])
     requires geometry { IsGeometry volume.now.geometry }
     requires blocks { first + count ≤ top_block volume.now.geometry + 1 }
     requires into { length into.old ≡ count * volume.now.geometry.blocksize }
-    ensures { into.new ≡ flat_map (made_block_bytes volume.now.geometry volume.now.order volume.now.moment) (range_with_len first count) }
+    ensures { into.new
+        ≡ flat_map (made_block_bytes volume.now.geometry volume.now.order volume.now.moment) (range_with_len first count) }
 {
     let size = volume.geometry.blocksize as usize;
     for index in 0..count {

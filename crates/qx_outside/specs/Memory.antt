@@ -79,3 +79,8 @@ abbrev pub GoesBy : Fate → Bool → Option Deed → Option Deed → History �
 GoesBy NoRoom good deed failed old new = (good ≡ false) × (new ≡ old)
 GoesBy Bad good deed failed old new = (good ≡ false) × (new ≡ after_any failed old)
 GoesBy Good good deed failed old new = (good ≡ true) × (new ≡ after_any deed old)
+
+-- unless memory lacked, the call went by the rule of its number: a good one did this deed, and a failed one may leave that
+abbrev pub KeepsRule : Option Deed → Option Deed → Bool → MemHost → MemHost → Type 0
+KeepsRule deed failed good old new =
+    lacked_of new ≡ false → (lacked_of old ≡ false) × GoesBy (next_fate old) good deed failed (outside_of old).history (outside_of new).history

@@ -42,10 +42,12 @@ pub trait Dev {
     /// Fills the slice with the device's bytes from byte `at` on.
     fn read_at(&mut self, at: u64, into: &mut [u8]) -> Result<(), Failed>
         requires { IfSome (outside self.old).extent (λ len. at + length into.old ≤ len) }
-        ensures bytes { OnOk result (IsTrue (outside self.new).tells → into.new ≡ slice_range (bytes_of (outside self.old).history) at (at + length into.old)) }
+        ensures bytes { OnOk result (IsTrue (outside self.new).tells
+            → into.new ≡ slice_range (bytes_of (outside self.old).history) at (at + length into.old)) }
         ensures step { Idles (outside self.old) (outside self.new) }
         ensures extent { StaysWhereTold (outside self.old).extent (outside self.new).extent }
-        ensures reads { OnOk result ((outside self.new).dev_reads ≡ option_map (λ n. n + 1) (outside self.old).dev_reads) }
+        ensures reads { OnOk result ((outside self.new).dev_reads
+            ≡ option_map (λ n. n + 1) (outside self.old).dev_reads) }
         ensures reads_err { OnErr result ((outside self.new).dev_reads ≡ (outside self.old).dev_reads) }
         ensures others { LeavesConsole (outside self.old) (outside self.new) }
         ensures cause { HasCause (outside self.old).dev_faults (outside self.new).dev_faults result };

@@ -50,7 +50,8 @@ impl Log {
         asked: ByteList,
     ) -> Result<(), AllocError>
         requires { at + length left ≤ length bytes.old.items }
-        ensures ok { OnOk result (reverse self.new.trail.items ≡ Event.Wrote at left ok ∷ reverse self.old.trail.items) }
+        ensures ok { OnOk result (reverse self.new.trail.items
+            ≡ Event.Wrote at left ok ∷ reverse self.old.trail.items) }
         ensures err { OnErr result (self.new.trail.items ≡ self.old.trail.items) }
         ensures asked { OnOk result (reverse self.new.asked.items ≡ asked ∷ reverse self.old.asked.items) }
         ensures asked_err { OnErr result (self.new.asked.items ≡ self.old.asked.items) }
@@ -87,7 +88,8 @@ impl Paths {
 
     /// Adds one at the end.
     pub fn add(&mut self, alloc: Global, path: &[u8], create: bool) -> Result<(), AllocError>
-        ensures { OnOk result (reverse self.new.items.items ≡ record { path = path.now; create = create } ∷ reverse self.old.items.items) }
+        ensures { OnOk result (reverse self.new.items.items
+            ≡ record { path = path.now; create = create } ∷ reverse self.old.items.items) }
     {
         let path = copy_of(alloc, path)?;
         self.items.push(Attachment { path, create })?;
@@ -122,7 +124,8 @@ pub fn joined(
 ) -> Result<ByteList, AllocError>
     requires split { split ≤ length first.now }
     requires enough { length first.now ≤ length second.now }
-    ensures bytes { IfOk result (λ b. b ≡ take split first.now ++ slice_range second.now split (length first.now)) }
+    ensures bytes { IfOk result (λ b. b ≡ take split first.now
+        ++ slice_range second.now split (length first.now)) }
     ensures length { IfOk result (λ b. length b ≡ length first.now) }
     ensures whole { IfOk result (λ b. split ≡ length first.now → b ≡ first.now) }
 {

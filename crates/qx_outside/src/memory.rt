@@ -48,12 +48,15 @@ impl MemHost {
         failing: Vec<u64>,
         room: usize,
     ) -> Result<MemHost, AllocError>
-        ensures history { IfOk result (λ h. (outside_of h).history ≡ record { starting = bytes.items; deeds = [] }) }
-        ensures setup { IfOk result (λ h. setup_of h ≡ record { failing = failing.items; calls = 0; room = room; input = input.items; moments = moments.items; moments_told = 0 }) }
+        ensures history { IfOk result (λ h. (outside_of h).history
+            ≡ record { starting = bytes.items; deeds = [] }) }
+        ensures setup { IfOk result (λ h. setup_of h
+            ≡ record { failing = failing.items; calls = 0; room = room; input = input.items; moments = moments.items; moments_told = 0 }) }
         ensures length { IfOk result (λ h. (outside_of h).extent ≡ Some (length bytes.items)) }
         ensures attached { IfOk result (λ h. (outside_of h).attached ≡ Some []) }
         ensures reads { IfOk result (λ h. (outside_of h).dev_reads ≡ Some 0) }
-        ensures faults { IfOk result (λ h. ((outside_of h).dev_faults ≡ 0) × ((outside_of h).con_faults ≡ 0)) }
+        ensures faults { IfOk result (λ h. ((outside_of h).dev_faults ≡ 0)
+            × ((outside_of h).con_faults ≡ 0)) }
         ensures memory { IfOk result (λ h. lacked_of h ≡ false) }
     {
         let start = bytes.as_slice().to_vec(alloc)?;

@@ -7,5 +7,6 @@ use crate::Dev;
 pub trait Recorded: Dev {
     /// How many events the trail has, where it is told. This is no outside call.
     fn events(&self) -> u64
-        ensures { IsTrue (Self.outside self.now).tells → result ≡ length (Self.outside self.now).history.deeds };
+        ensures { IsTrue (Self.outside self.now).tells
+            → result ≡ length (Self.outside self.now).history.deeds };
 }

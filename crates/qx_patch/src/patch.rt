@@ -199,7 +199,8 @@ fn insert_entry(
     ensures pairs { pairs_of entries.new.items ≡ insert (pairs_of entries.old.items) at (b, bytes.now) }
     ensures count { vec_len spares.new + 1 ≡ vec_len spares.old }
     ensures others { All (λ spare. length spare.items ≡ length bytes.now) spares.new.items }
-    ensures capacity { (deque_capacity entries.old ≤ deque_capacity entries.new) × (vec_capacity spares.new ≡ vec_capacity spares.old) }
+    ensures capacity { (deque_capacity entries.old ≤ deque_capacity entries.new)
+        × (vec_capacity spares.new ≡ vec_capacity spares.old) }
 {
     let Some(mut buffer) = spares.pop() else {
         unreachable!()
@@ -219,8 +220,10 @@ fn remove_entry(entries: &mut VecDeque<Entry>, spares: &mut Vec<Vec<u8>>, at: us
     requires within { at < deque_len entries.old }
     requires room { vec_len spares.old < vec_capacity spares.old }
     ensures pairs { pairs_of entries.new.items ≡ remove (pairs_of entries.old.items) at }
-    ensures kept { (entry : _) → entry ≡ slice_index_or entries.old.items at entry → spares.new.items ≡ spares.old.items ++ entry.bytes ∷ [] }
-    ensures capacity { (deque_capacity entries.new ≡ deque_capacity entries.old) × (vec_capacity spares.old ≤ vec_capacity spares.new) }
+    ensures kept { (entry : _) → entry ≡ slice_index_or entries.old.items at entry
+        → spares.new.items ≡ spares.old.items ++ entry.bytes ∷ [] }
+    ensures capacity { (deque_capacity entries.new ≡ deque_capacity entries.old)
+        × (vec_capacity spares.old ≤ vec_capacity spares.new) }
 {
     let Some(Entry { block: _, bytes }) = entries.remove(at) else {
         unreachable!()
@@ -235,7 +238,8 @@ fn first_from(entries: &VecDeque<Entry>, b: u32) -> usize
     requires { IsAscending (numbers_of entries.now.items) }
     ensures within { result ≤ length entries.now.items }
     ensures below { (k : ℕ) → k < result → slice_index (numbers_of entries.now.items) k < b }
-    ensures above { (k : ℕ) → result ≤ k → k < length entries.now.items → b ≤ slice_index (numbers_of entries.now.items) k }
+    ensures above { (k : ℕ) → result ≤ k → k < length entries.now.items
+        → b ≤ slice_index (numbers_of entries.now.items) k }
 {
     entries.partition_point(|entry| entry.block < b)
 }
@@ -243,8 +247,10 @@ fn first_from(entries: &VecDeque<Entry>, b: u32) -> usize
 // The place of block b, where it is there.
 fn place_of(entries: &VecDeque<Entry>, b: u32) -> Option<usize>
     requires { IsAscending (numbers_of entries.now.items) }
-    ensures there { IfSome result (λ at. (at < length entries.now.items) × (slice_index (numbers_of entries.now.items) at ≡ b)) }
-    ensures absent { IfNone result ((k : ℕ) → k < length entries.now.items → slice_index (numbers_of entries.now.items) k ≢ b) }
+    ensures there { IfSome result (λ at. (at < length entries.now.items)
+        × (slice_index (numbers_of entries.now.items) at ≡ b)) }
+    ensures absent { IfNone result ((k : ℕ) → k < length entries.now.items
+        → slice_index (numbers_of entries.now.items) k ≢ b) }
 {
     let at = first_from(entries, b);
     match entries.get(at) {

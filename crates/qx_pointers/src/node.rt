@@ -94,8 +94,10 @@ impl Visitor {
         ensures fits { (m : BlockMap) → m.size ≡ self.now.shape.blocksize → m.count ≡ self.now.shape.count
             → result ≡ (if self.now.bounded then root_fits m node.now else levels_fit m node.now) }
         ensures levels { result ≡ true → node.now.levels ≤ 5 }
-        ensures reached { result ≡ true → ceil_div node.now.size self.now.shape.blocksize ≤ 16 * per_block self.now.shape.blocksize ^ node.now.levels }
-        ensures bounded { result ≡ true → IsTrue self.now.bounded → node.now.size ≤ self.now.shape.count * self.now.shape.blocksize }
+        ensures reached { result ≡ true → ceil_div node.now.size self.now.shape.blocksize
+            ≤ 16 * per_block self.now.shape.blocksize ^ node.now.levels }
+        ensures bounded { result ≡ true → IsTrue self.now.bounded
+            → node.now.size ≤ self.now.shape.count * self.now.shape.blocksize }
     {
         let blocksize = u64::from(self.shape.blocksize);
         node.levels <= 5
@@ -118,13 +120,16 @@ pub fn walk_node<D: Dev>(
     requires fits { Fits visitor.now.shape (D.outside host.old) }
     ensures tests { (m : BlockMap) → Shows visitor.now.shape (D.outside host.new) m
         → GoesThrough (node_tests m visitor.now.inode node.now (if visitor.now.bounded then root_fits m node.now else levels_fit m node.now)) result met.old met.new }
-    ensures part { (m : BlockMap) → Shows visitor.now.shape (D.outside host.new) m → IfOk result (IsWhole m node.now) }
+    ensures part { (m : BlockMap) → Shows visitor.now.shape (D.outside host.new) m
+        → IfOk result (IsWhole m node.now) }
     ensures leaves { (m : BlockMap) → Shows visitor.now.shape (D.outside host.new) m
         → OnOk result (leaves.new.items ≡ kept_leaves visitor.now.keeps (visits_of m node.now)) }
 
     // Whether the device tells or not.
-    ensures bounds { OnOk result (ceil_div node.now.size visitor.now.shape.blocksize ≤ reach visitor.now.shape.blocksize 5) }
-    ensures bounded { OnOk result (IsTrue visitor.now.bounded → node.now.size ≤ visitor.now.shape.count * visitor.now.shape.blocksize) }
+    ensures bounds { OnOk result (ceil_div node.now.size visitor.now.shape.blocksize
+        ≤ reach visitor.now.shape.blocksize 5) }
+    ensures bounded { OnOk result (IsTrue visitor.now.bounded
+        → node.now.size ≤ visitor.now.shape.count * visitor.now.shape.blocksize) }
     ensures placed { OnOk result (All (IsPlaced visitor.now.shape node.now) leaves.new.items) }
     ensures end { IfOk result (λ part. IfSome part.end (λ block. block < visitor.now.shape.count)) }
     ensures follows { Follows met.old met.new [] leaves.new.items

@@ -174,7 +174,8 @@ fn keep(
     requires index { index < last }
     requires placed { All (IsLeafOf visitor.now.shape.count last) leaves.old.items }
     ensures part { IfOk result (λ part. part ≡ leaf_part last (leaf_at index block)) }
-    ensures leaves { OnOk result (leaves.new.items ≡ leaves.old.items ++ kept_leaves visitor.now.keeps (leaf_at index block ∷ [])) }
+    ensures leaves { OnOk result (leaves.new.items ≡ leaves.old.items
+        ++ kept_leaves visitor.now.keeps (leaf_at index block ∷ [])) }
     ensures placed { OnOk result (All (IsLeafOf visitor.now.shape.count last) leaves.new.items) }
     ensures one { length leaves.new.items ≤ length leaves.old.items + 1 }
     ensures end { IfOk result (λ part. IfSome part.end (λ end. end < visitor.now.shape.count)) }

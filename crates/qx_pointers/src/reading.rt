@@ -21,7 +21,8 @@ pub fn read_block<D: Dev>(
     requires block { block < shape.count }
     requires long { length into.old ≡ shape.blocksize }
     requires fits { Fits shape (D.outside host.old) }
-    ensures bytes { (m : BlockMap) → Shows shape (D.outside host.new) m → OnOk result (into.new ≡ m.bytes block) }
+    ensures bytes { (m : BlockMap) → Shows shape (D.outside host.new) m
+        → OnOk result (into.new ≡ m.bytes block) }
     ensures long { length into.new ≡ length into.old }
     ensures looks { ReadsOnce (D.outside host.old) (D.outside host.new) result }
 {
@@ -39,7 +40,8 @@ pub fn read_block_from<D: Dev>(
     requires block { block < shape.count }
     requires long { from + length into.old ≡ shape.blocksize }
     requires fits { Fits shape (D.outside host.old) }
-    ensures bytes { (m : BlockMap) → Shows shape (D.outside host.new) m → OnOk result (into.new ≡ drop from (m.bytes block)) }
+    ensures bytes { (m : BlockMap) → Shows shape (D.outside host.new) m
+        → OnOk result (into.new ≡ drop from (m.bytes block)) }
     ensures long { length into.new ≡ length into.old }
     ensures looks { ReadsOnce (D.outside host.old) (D.outside host.new) result }
 {
@@ -57,7 +59,8 @@ pub fn read_blocks<D: Dev>(
     requires whole { length into.old % shape.blocksize ≡ 0 }
     requires blocks { first + length into.old / shape.blocksize ≤ shape.count }
     requires fits { Fits shape (D.outside host.old) }
-    ensures bytes { (m : BlockMap) → Shows shape (D.outside host.new) m → OnOk result (HasBlocks m first into.new) }
+    ensures bytes { (m : BlockMap) → Shows shape (D.outside host.new) m
+        → OnOk result (HasBlocks m first into.new) }
     ensures long { length into.new ≡ length into.old }
     ensures looks { ReadsOnce (D.outside host.old) (D.outside host.new) result }
 {

@@ -163,10 +163,6 @@ are_read img first second len place long firsts searched seconds =
       second_bytes = seconds ∙ ap (λ (p : Option ℕ). buffer_of (option_and_then (λ at. area_at img at) p)) (searched ∙ ap (λ (n : ℕ). searched_place n (first_read first len)) long ∙ ap (λ (s : Option Superblock). searched_place (length img) s) named);
     }
 
--- the pick of what was read on a device of the image's length
-pub pick_of-read_at : (img first second : List ℕ) (len : ℕ) → len ≡ length img → AreRead img first second → pick_of (first_read first len) (second_read first second len) ≡ active_area img
-pick_of-read_at img first second len long read = ap (λ (n : ℕ). pick_of (first_read first n) (second_read first second n)) long ∙ pick_of-read img first second read
-
 -- a length that is told after two calls was told before them, and is the one that was given
 pub len_is : (before mid now : Option ℕ) (n len : ℕ) → StaysWhereTold before mid → StaysWhereTold mid now → now ≡ Some n → IfSome before (λ m. m ≡ len) → len ≡ n
 len_is before mid None n len first second told given = absurd (cc told)

@@ -53,7 +53,8 @@ pub fn areas<'a, D: Dev>(
     ensures read { IfOk result (IsReadFrom len) }
 
     // Where the device tells, that is what its bytes decide.
-    ensures told { IfOk result (λ areas. IsTrue (D.outside host.new).tells → IsOfImage (bytes_of (D.outside host.new).history) areas) }
+    ensures told { IfOk result (λ areas. IsTrue (D.outside host.new).tells
+        → IsOfImage (bytes_of (D.outside host.new).history) areas) }
 
     ensures step { Idles (D.outside host.old) (D.outside host.new) }
     ensures extent { StaysWhereTold (D.outside host.old).extent (D.outside host.new).extent }

@@ -51,9 +51,11 @@ impl Listing {
     pub fn take(&mut self) -> Option<Queued>
         ensures some { (queue : List (ℕ × ℕ)) (listed : List ℕ) → HasListed queue listed self.old
             → IfSome result (λ q. (rest : List (ℕ × ℕ)) × (queue ≡ pair_of q ∷ rest) × HasListed rest listed self.new) }
-        ensures none { (queue : List (ℕ × ℕ)) (listed : List ℕ) → HasListed queue listed self.old → IfNone result (queue ≡ []) }
+        ensures none { (queue : List (ℕ × ℕ)) (listed : List ℕ) → HasListed queue listed self.old
+            → IfNone result (queue ≡ []) }
         ensures listing { (places : ℕ) → IsListing places self.old → IsListing places self.new }
-        ensures inode { (places : ℕ) → IsListing places self.old → IfSome result (λ q. (0 < q.inode) × (q.inode ≤ places)) }
+        ensures inode { (places : ℕ) → IsListing places self.old
+            → IfSome result (λ q. (0 < q.inode) × (q.inode ≤ places)) }
         ensures next { IfSome result (λ q. self.new.next ≡ self.old.next + 1) }
         ensures last { IfNone result (self.new.next ≡ self.old.next) }
 
@@ -70,7 +72,8 @@ impl Listing {
     pub fn has(&self, n: u32) -> bool
         requires positive { 0 < n }
         requires there { n ≤ limit_of self.now.listed }
-        ensures { (queue : List (ℕ × ℕ)) (listed : List ℕ) → HasListed queue listed self.now → result ≡ is_in listed n }
+        ensures { (queue : List (ℕ × ℕ)) (listed : List ℕ) → HasListed queue listed self.now
+            → result ≡ is_in listed n }
     {
         self.listed.has(n - 1)
     }
@@ -83,7 +86,8 @@ impl Listing {
             → OnOk result (HasListed (queue ++ map (λ k. (k, parent)) (new_ones (n ∷ []) listed)) (listed_after (n ∷ []) listed) self.new) }
         ensures listing { (places : ℕ) → IsListing places self.old → IsListing places self.new }
         ensures next { self.new.next ≡ self.old.next }
-        ensures longer { OnOk result (has self.old.listed (n - 1) ≡ false → length self.new.queue.items ≡ length self.old.queue.items + 1) }
+        ensures longer { OnOk result (has self.old.listed (n - 1) ≡ false
+            → length self.new.queue.items ≡ length self.old.queue.items + 1) }
         ensures no_fault { OnErr result (result ≡ Err halts.NoMemory) }
     {
         if self.listed.has(n - 1) {

@@ -42,7 +42,8 @@ impl LongNames {
         leaves: &[LeafPlace],
     ) -> Result<LongNames, Halt>
         requires placed { All (IsPlaced shape longfile.now) leaves.now }
-        ensures holds { (m : BlockMap) → AreLeaves m longfile.now leaves.now → IfOk result (HoldsNames m longfile.now []) }
+        ensures holds { (m : BlockMap) → AreLeaves m longfile.now leaves.now
+            → IfOk result (HoldsNames m longfile.now []) }
         ensures inside { IfOk result (AreInside shape.count) }
         ensures no_fault { OnErr result (result ≡ Err halts.NoMemory) }
     {
@@ -73,7 +74,8 @@ impl LongNames {
         requires inside { AreInside shape.count self.now }
         requires long { length buffer.old ≡ shape.blocksize }
         requires fits { Fits shape (D.outside host.old) }
-        ensures name { (m : BlockMap) (longfile : node) (numbers : List ℕ) → Shows shape (D.outside host.new) m → HoldsNames m longfile numbers self.now
+        ensures name { (m : BlockMap) (longfile : node) (numbers : List ℕ)
+            → Shows shape (D.outside host.new) m → HoldsNames m longfile numbers self.now
             → IfOk result (λ name. option_copied name ≡ long_name m longfile number) }
         ensures asks { Asks 1 (D.outside host.old) (D.outside host.new) result }
     {
@@ -86,7 +88,8 @@ impl LongNames {
 
     /// Counts that a record named this number.
     pub fn count(&mut self, number: u32)
-        ensures counted { (m : BlockMap) (longfile : node) (numbers : List ℕ) → HoldsNames m longfile numbers self.old → HoldsNames m longfile (number ∷ numbers) self.new }
+        ensures counted { (m : BlockMap) (longfile : node) (numbers : List ℕ)
+            → HoldsNames m longfile numbers self.old → HoldsNames m longfile (number ∷ numbers) self.new }
         ensures inside { (count : ℕ) → AreInside count self.old → AreInside count self.new }
     {
         if let Some(place) = self.place(number) {
@@ -97,7 +100,8 @@ impl LongNames {
 
     /// The least present leaf that wasn't named exactly once, or 0 where the size is no multiple of the block size.
     pub fn bad(&self, shape: Shape) -> Option<u64>
-        ensures { (m : BlockMap) (longfile : node) (numbers : List ℕ) → m.size ≡ shape.blocksize → HoldsNames m longfile numbers self.now → result ≡ bad_number m longfile numbers }
+        ensures { (m : BlockMap) (longfile : node) (numbers : List ℕ) → m.size ≡ shape.blocksize
+            → HoldsNames m longfile numbers self.now → result ≡ bad_number m longfile numbers }
     {
         if self.size % u64::from(shape.blocksize) != 0 {
             return Some(0);
@@ -114,7 +118,8 @@ impl LongNames {
     fn place(&self, number: u32) -> Option<usize>
         ensures inside { IfSome result (λ k. k < length self.now.leaves.items) }
         ensures found { IfSome result (IsPlaceOf self.now number) }
-        ensures none { IsAscending (numbers_in self.now) → IfNone result (¬ (Contains (numbers_in self.now) number)) }
+        ensures none { IsAscending (numbers_in self.now)
+            → IfNone result (¬ (Contains (numbers_in self.now) number)) }
     {
         self.leaves
             .binary_search_by_key(&u64::from(number), |leaf| leaf.place.index)

@@ -29,8 +29,10 @@ impl Names {
 
     /// Puts a name into the set, and says whether it is new there.
     pub fn add(&mut self, name: &[u8]) -> Result<bool, Halt>
-        ensures new { (names : List (List ℕ)) → HasNames self.old names → IfOk result (λ new. new ≡ not (list_any (λ other. bytes_eq other name.now) names)) }
-        ensures names { (names : List (List ℕ)) → HasNames self.old names → OnOk result (HasNames self.new (name.now ∷ names)) }
+        ensures new { (names : List (List ℕ)) → HasNames self.old names
+            → IfOk result (λ new. new ≡ not (list_any (λ other. bytes_eq other name.now) names)) }
+        ensures names { (names : List (List ℕ)) → HasNames self.old names
+            → OnOk result (HasNames self.new (name.now ∷ names)) }
         ensures no_fault { OnErr result (result ≡ Err halts.NoMemory) }
     {
         let key = name.to_vec(self.alloc)?;

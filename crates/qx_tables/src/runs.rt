@@ -10,7 +10,8 @@ pub(crate) fn run_length(leaves: &[LeafPlace], from: usize, most: usize) -> usiz
     requires most { 0 < most }
     ensures run { IsRun leaves.now from result }
     ensures few { result ≤ most }
-    ensures longest { result < most → from + result < length leaves.now → is_behind (leaf_in leaves.now (from + result - 1)) (leaf_in leaves.now (from + result)) ≡ false }
+    ensures longest { result < most → from + result < length leaves.now
+        → is_behind (leaf_in leaves.now (from + result - 1)) (leaf_in leaves.now (from + result)) ≡ false }
 {
     let most = most.min(leaves.len() - from);
     for count in 1..most {

@@ -46,7 +46,8 @@ impl InodeTable {
         requires placed { All (IsPlaced shape inodes.now) leaves.now }
         requires bounded { inodes.now.size ≤ shape.count * shape.blocksize }
         requires fits { Fits shape (D.outside host.old) }
-        ensures holds { (m : BlockMap) → Shows shape (D.outside host.new) m → AreLeaves m inodes.now leaves.now → IfOk result (HoldsInodes m inodes.now) }
+        ensures holds { (m : BlockMap) → Shows shape (D.outside host.new) m
+            → AreLeaves m inodes.now leaves.now → IfOk result (HoldsInodes m inodes.now) }
         ensures places { IfOk result (λ table. places_of table ≡ places_in inodes.now) }
         ensures looks { Looks halts.Device 0 (length leaves.now) (D.outside host.old) (D.outside host.new) result }
 
@@ -80,7 +81,8 @@ impl InodeTable {
     /// Inode n.
     pub fn inode(&self, n: u32) -> Inode
         requires { (0 < n) × (n ≤ places_of self.now) }
-        ensures { (m : BlockMap) (inodes : node) → HoldsInodes m inodes self.now → result ≡ inode_of m inodes n }
+        ensures { (m : BlockMap) (inodes : node) → HoldsInodes m inodes self.now
+            → result ≡ inode_of m inodes n }
     {
         InodeView::new(self.bytes_of(n), self.order).get()
     }
@@ -88,7 +90,8 @@ impl InodeTable {
     /// Whether all bytes of inode n are 0.
     pub fn is_zero(&self, n: u32) -> bool
         requires { (0 < n) × (n ≤ places_of self.now) }
-        ensures { (m : BlockMap) (inodes : node) → HoldsInodes m inodes self.now → result ≡ are_zero (inode_bytes m inodes n) }
+        ensures { (m : BlockMap) (inodes : node) → HoldsInodes m inodes self.now
+            → result ≡ are_zero (inode_bytes m inodes n) }
     {
         self.bytes_of(n).iter().all(|byte| *byte == 0)
     }
@@ -96,14 +99,16 @@ impl InodeTable {
     /// Whether the bytes of inode n that the format doesn't name are 0.
     pub fn is_plain(&self, n: u32) -> bool
         requires { (0 < n) × (n ≤ places_of self.now) }
-        ensures { (m : BlockMap) (inodes : node) → HoldsInodes m inodes self.now → result ≡ are_zero (drop 102 (inode_bytes m inodes n)) }
+        ensures { (m : BlockMap) (inodes : node) → HoldsInodes m inodes self.now
+            → result ≡ are_zero (drop 102 (inode_bytes m inodes n)) }
     {
         self.bytes_of(n)[102..].iter().all(|byte| *byte == 0)
     }
 
     /// Whether a byte past the Inode tree's size, in its last leaf, isn't 0.
     pub fn has_tail(&self) -> bool
-        ensures { (m : BlockMap) (inodes : node) → HoldsInodes m inodes self.now → result ≡ has_tail m inodes }
+        ensures { (m : BlockMap) (inodes : node) → HoldsInodes m inodes self.now
+            → result ≡ has_tail m inodes }
     {
         self.bytes[self.size as usize..]
             .iter()
@@ -133,7 +138,8 @@ impl InodeTable {
         requires fits { Fits shape (D.outside host.old) }
         ensures leaves { (m : BlockMap) → Shows shape (D.outside host.new) m
             → OnOk result ((k : ℕ) → k < count → leaf_range shape.blocksize bytes.new (first.index + k) ≡ m.bytes (first.block + k)) }
-        ensures others { (i : ℕ) → IsApart first.index count i → leaf_range shape.blocksize bytes.new i ≡ leaf_range shape.blocksize bytes.old i }
+        ensures others { (i : ℕ) → IsApart first.index count i
+            → leaf_range shape.blocksize bytes.new i ≡ leaf_range shape.blocksize bytes.old i }
         ensures long { length bytes.new ≡ length bytes.old }
         ensures looks { ReadsOnce (D.outside host.old) (D.outside host.new) result }
     {

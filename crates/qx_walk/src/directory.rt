@@ -40,7 +40,8 @@ pub fn walk_records<D: Dev>(
 ) -> Result<bool, Halt>
     requires placed { All (IsPlaced ground.now.shape directory.now.node) leaves.now }
     requires reading { IsReading ground.now seen.old (D.outside host.old) }
-    ensures walked { (m : BlockMap) (r : Roots) (queue : List (ℕ × ℕ)) (listed numbers : List ℕ) → Shows ground.now.shape (D.outside host.new) m
+    ensures walked { (m : BlockMap) (r : Roots) (queue : List (ℕ × ℕ)) (listed numbers : List ℕ)
+        → Shows ground.now.shape (D.outside host.new) m
         → HoldsInodes m r.inodes ground.now.table → HoldsNames m r.longfile numbers seen.old.longs → HasListed queue listed seen.old.listing
         → AreLeaves m directory.now.node leaves.now → WalksRecords m r directory.now queue listed numbers result seen.new }
 
@@ -70,7 +71,8 @@ fn walk_leaf<D: Dev>(
     ensures walked { (m : BlockMap) (r : Roots) (kept : Kept) → Shows ground.now.shape (D.outside host.new) m
         → HoldsInodes m r.inodes ground.now.table → Holds m r.longfile kept seen.old → leaf_of m directory.now.node leaf.index ≡ Block leaf.block
         → WalksThrough m r directory.now (leaf_records m directory.now.node leaf.index) kept result seen.new }
-    ensures dots { (m : BlockMap) → Shows ground.now.shape (D.outside host.new) m → leaf_of m directory.now.node leaf.index ≡ Block leaf.block
+    ensures dots { (m : BlockMap) → Shows ground.now.shape (D.outside host.new) m
+        → leaf_of m directory.now.node leaf.index ≡ Block leaf.block
         → leaf.index ≡ 0 → IfOk result (λ begins. begins ≡ begins_with_dots m directory.now.node) }
 
     ensures lists { Lists ground.now (leaf_reads ground.now.shape) seen.old seen.new
@@ -185,7 +187,8 @@ fn walk_row(
 ) -> Result<(), Halt>
     requires named { 0 < inode }
     requires listing { IsListing (places_of ground.now.table) seen.old.listing }
-    ensures walked { (m : BlockMap) (r : Roots) (kept : Kept) → HoldsInodes m r.inodes ground.now.table → Holds m r.longfile kept seen.old
+    ensures walked { (m : BlockMap) (r : Roots) (kept : Kept) → HoldsInodes m r.inodes ground.now.table
+        → Holds m r.longfile kept seen.old
         → WalksRow m r (record_place at) inode name.now kept result seen.new }
 
     ensures longs { seen.new.longs ≡ seen.old.longs }
@@ -235,7 +238,8 @@ fn wanted(at: RecordPlace, name: &[u8]) -> u32
 fn is_again(kind: Kind, inode: u32, listing: &Listing) -> bool
     requires positive { 0 < inode }
     requires there { inode ≤ limit_of listing.now.listed }
-    ensures { (queue : List (ℕ × ℕ)) (listed : List ℕ) → HasListed queue listed listing.now → result ≡ (is_directory_kind (Some kind) && is_in listed inode) }
+    ensures { (queue : List (ℕ × ℕ)) (listed : List ℕ) → HasListed queue listed listing.now
+        → result ≡ (is_directory_kind (Some kind) && is_in listed inode) }
 {
     matches!(kind, Kind::Directory) && listing.has(inode)
 }

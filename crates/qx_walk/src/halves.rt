@@ -26,7 +26,8 @@ pub(crate) fn is_laid_out<D: Dev>(
     met: &BlockSet,
 ) -> Result<bool, Halt>
     requires met { IsMetOn shape geometry.now met.now (D.outside host.old) }
-    ensures right { (m : BlockMap) → Shows shape (D.outside host.new) m → IfOk result (λ right. right ≡ is_laid_out_by m view.now geometry.now which met.now) }
+    ensures right { (m : BlockMap) → Shows shape (D.outside host.new) m
+        → IfOk result (λ right. right ≡ is_laid_out_by m view.now geometry.now which met.now) }
     ensures asks { Asks (4 * shape.count) (D.outside host.old) (D.outside host.new) result }
 {
     if view.root(RootName::Bitmap) != geometry.tree_root(which, SystemTree::Bitmap)
@@ -50,7 +51,8 @@ fn has_system_trees<D: Dev>(
     which: Which,
 ) -> Result<bool, Halt>
     requires volume { IsVolumeOn shape geometry.now (D.outside host.old) }
-    ensures words { (m : BlockMap) → Shows shape (D.outside host.new) m → IfOk result (λ right. right ≡ has_system_trees m geometry.now which) }
+    ensures words { (m : BlockMap) → Shows shape (D.outside host.new) m
+        → IfOk result (λ right. right ≡ has_system_trees m geometry.now which) }
     ensures asks { Asks (2 * shape.count) (D.outside host.old) (D.outside host.new) result }
 {
     if !has_system_words(host, shape, geometry, which, SystemTree::Bitmap)? {

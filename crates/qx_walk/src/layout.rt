@@ -75,7 +75,8 @@ pub fn first_reason<D: Dev>(
     requires geometry { IfSome geometry (HasNumbers view.now) }
     requires bounds { HasBounds shape.count walked.now }
     requires fits { Fits shape (D.outside host.old) }
-    ensures reason { (m : BlockMap) (len : ℕ) → Shows shape (D.outside host.new) m → written_geometry view.now len ≡ geometry → IsWalked m (main_roots view.now) walked.now
+    ensures reason { (m : BlockMap) (len : ℕ) → Shows shape (D.outside host.new) m
+        → written_geometry view.now len ≡ geometry → IsWalked m (main_roots view.now) walked.now
         → IfOk result (λ why. why ≡ reason_with m view.now which geometry) }
     ensures asks { Asks (5 * shape.count) (D.outside host.old) (D.outside host.new) result }
 {
@@ -103,7 +104,8 @@ pub fn first_reason<D: Dev>(
 /// The first of the reasons 4 to 7, by what the walk noted.
 fn noted_reason(walked: &Walked) -> Option<Foreign>
     requires { limit_of walked.now.reached ≡ places_of walked.now.table }
-    ensures { (m : BlockMap) (r : Roots) → IsWalked m r walked.now → result ≡ later_reason m r (walked_inodes m r) }
+    ensures { (m : BlockMap) (r : Roots) → IsWalked m r walked.now
+        → result ≡ later_reason m r (walked_inodes m r) }
 {
     if let Some(n) = walked.notes.nodes {
         return Some(Foreign {
@@ -133,7 +135,8 @@ fn noted_reason(walked: &Walked) -> Option<Foreign>
 /// The least inode that is reached and not as this project writes it, or isn't reached and has a byte that isn't 0.
 fn first_foreign_inode(walked: &Walked) -> Option<u32>
     requires { limit_of walked.now.reached ≡ places_of walked.now.table }
-    ensures { (m : BlockMap) (r : Roots) → IsWalked m r walked.now → result ≡ first_below (fails_inodes m r (walked_inodes m r)) (inode_places r + 1) }
+    ensures { (m : BlockMap) (r : Roots) → IsWalked m r walked.now
+        → result ≡ first_below (fails_inodes m r (walked_inodes m r)) (inode_places r + 1) }
 {
     for place in 0..walked.table.places() {
         if !is_right_inode(walked, place + 1) {
@@ -147,7 +150,8 @@ fn first_foreign_inode(walked: &Walked) -> Option<u32>
 fn is_right_inode(walked: &Walked, n: u32) -> bool
     requires bounds { limit_of walked.now.reached ≡ places_of walked.now.table }
     requires place { (0 < n) × (n ≤ places_of walked.now.table) }
-    ensures { (m : BlockMap) (r : Roots) → IsWalked m r walked.now → fails_inodes m r (walked_inodes m r) n ≡ not result }
+    ensures { (m : BlockMap) (r : Roots) → IsWalked m r walked.now
+        → fails_inodes m r (walked_inodes m r) n ≡ not result }
 {
     if walked.reached.has(n - 1) {
         return is_written_inode(&walked.table, n);
@@ -158,7 +162,8 @@ fn is_right_inode(walked: &Walked, n: u32) -> bool
 /// Whether an inode is as this project writes it.
 fn is_written_inode(table: &InodeTable, n: u32) -> bool
     requires { (0 < n) × (n ≤ places_of table.now) }
-    ensures { (m : BlockMap) (r : Roots) → HoldsInodes m r.inodes table.now → result ≡ is_written_inode m r n }
+    ensures { (m : BlockMap) (r : Roots) → HoldsInodes m r.inodes table.now
+        → result ≡ is_written_inode m r n }
 {
     let inode = table.inode(n);
     let status = match Kind::of(inode.mode) {
@@ -173,7 +178,9 @@ fn is_written_inode(table: &InodeTable, n: u32) -> bool
 pub fn last_finding(view: &SuperView<'_>, geometry: &Geometry, walked: &Walked) -> Option<Finding>
     requires geometry { IsGeometry geometry.now }
     requires bounds { HasBounds geometry.now.num_blocks walked.now }
-    ensures { (m : BlockMap) (len : ℕ) (which : Area) → m.size ≡ geometry.now.blocksize → m.count ≡ geometry.now.num_blocks → written_geometry view.now len ≡ Some geometry.now → IsWalked m (main_roots view.now) walked.now
+    ensures { (m : BlockMap) (len : ℕ) (which : Area) → m.size ≡ geometry.now.blocksize
+        → m.count ≡ geometry.now.num_blocks → written_geometry view.now len ≡ Some geometry.now
+        → IsWalked m (main_roots view.now) walked.now
         → reason_with m view.now which (Some geometry.now) ≡ None → result ≡ last_with m view.now (Some geometry.now) }
 {
     if let Some(n) = walked.notes.tails {
@@ -215,7 +222,9 @@ pub fn last_of(
 ) -> Option<Finding>
     requires geometry { IfSome geometry (HasNumbers view.now) }
     requires bounds { HasBounds view.now.num_blocks walked.now }
-    ensures last { (m : BlockMap) (len : ℕ) (which : Area) → m.size ≡ view.now.blocksize → m.count ≡ view.now.num_blocks → written_geometry view.now len ≡ geometry → IsWalked m (main_roots view.now) walked.now
+    ensures last { (m : BlockMap) (len : ℕ) (which : Area) → m.size ≡ view.now.blocksize
+        → m.count ≡ view.now.num_blocks → written_geometry view.now len ≡ geometry
+        → IsWalked m (main_roots view.now) walked.now
         → reason_with m view.now which geometry ≡ None → foreign ≡ None → result ≡ last_with m view.now geometry }
     ensures foreign { IfSome foreign (λ f. result ≡ None) }
 {

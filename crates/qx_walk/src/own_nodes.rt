@@ -33,7 +33,8 @@ pub(crate) fn walk_own_node<D: Dev>(
 ) -> Result<Part, Halt>
     requires met { limit_of way.old.met ≡ shape.count }
     requires fits { Fits shape (D.outside host.old) }
-    ensures walked { (m : BlockMap) (met : List ℕ) → Shows shape (D.outside host.new) m → Marks way.old.met met
+    ensures walked { (m : BlockMap) (met : List ℕ) → Shows shape (D.outside host.new) m
+        → Marks way.old.met met
         → WalksNode m n node.now keeps met result way.old way.new }
 
     // Whether the device tells or not.
@@ -61,7 +62,8 @@ pub(crate) fn walk_own_node<D: Dev>(
 /// Whether a node isn't as this project writes it, of which this was seen.
 pub(crate) fn is_foreign_node(shape: Shape, node: &Root, part: Part) -> bool
     requires bounds { ceil_div node.now.size shape.blocksize ≤ reach shape.blocksize 5 }
-    ensures { (m : BlockMap) → m.size ≡ shape.blocksize → IsWhole m node.now part → result ≡ is_foreign_root m node.now }
+    ensures { (m : BlockMap) → m.size ≡ shape.blocksize → IsWhole m node.now part
+        → result ≡ is_foreign_root m node.now }
 {
     let leaves = node.size.div_ceil(u64::from(shape.blocksize));
     node.levels != levels(leaves, shape.blocksize) || part.strays || part.bare
@@ -69,7 +71,8 @@ pub(crate) fn is_foreign_node(shape: Shape, node: &Root, part: Part) -> bool
 
 /// Whether a directory isn't as this project writes it by its size or its holes.
 pub(crate) fn is_foreign_directory(shape: Shape, node: &Root, part: Part) -> bool
-    ensures { (m : BlockMap) → m.size ≡ shape.blocksize → IsWhole m node.now part → result ≡ is_foreign_directory_node m node.now }
+    ensures { (m : BlockMap) → m.size ≡ shape.blocksize → IsWhole m node.now part
+        → result ≡ is_foreign_directory_node m node.now }
 {
     let blocksize = u64::from(shape.blocksize);
     node.size == 0 || node.size % blocksize != 0 || part.leaves != node.size / blocksize
@@ -96,7 +99,8 @@ fn has_tail<D: Dev>(
 ) -> Result<bool, Halt>
     requires end { IfSome part.end (λ block. block < shape.count) }
     requires fits { Fits shape (D.outside host.old) }
-    ensures tail { (m : BlockMap) → Shows shape (D.outside host.new) m → IfOk result (λ tail. tail ≡ tail_at m (node.now.size % m.size) part.end) }
+    ensures tail { (m : BlockMap) → Shows shape (D.outside host.new) m
+        → IfOk result (λ tail. tail ≡ tail_at m (node.now.size % m.size) part.end) }
     ensures asks { Asks 1 (D.outside host.old) (D.outside host.new) result }
 {
     let Some(block) = part.end else {

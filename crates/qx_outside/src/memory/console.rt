@@ -10,7 +10,7 @@ use crate::schedule::{Fate, fault, lack};
 use crate::{Event, Failed, Host};
 
 impl Host for MemHost {
-    ghost use Rattle.qx_outside.specs.Memory.{outside_of, setup_of, lacked_of, next_fate, counted, taken_off, asked_again, moment_at, GoesBy};
+    ghost use Rattle.qx_outside.specs.Memory.{outside_of, setup_of, counted, taken_off, asked_again, moment_at, KeepsRule};
 
     fn take(&mut self, into: &mut [u8]) -> Result<usize, Failed>
         requires { 0 < length into.old }
@@ -22,7 +22,8 @@ impl Host for MemHost {
         ensures cause { HasCause (outside_of self.old).con_faults (outside_of self.new).con_faults result }
         ensures most { IfOk result (λ n. n ≡ min (length (setup_of self.old).input) (length into.old)) }
         ensures bytes { IfOk result (λ n. into.new ≡ take n (setup_of self.old).input ++ drop n into.old) }
-        ensures rule { lacked_of self.new ≡ false → (lacked_of self.old ≡ false) × GoesBy (next_fate self.old) (is_ok result) (Some (took (take (min (length (setup_of self.old).input) (length into.old)) (setup_of self.old).input))) None (outside_of self.old).history (outside_of self.new).history }
+        ensures rule { KeepsRule (Some (took (take (min (length (setup_of self.old).input) (length into.old)) (setup_of self.old).input))) None
+            (is_ok result) self.old self.new }
         ensures setup { IfOk result (λ n. setup_of self.new ≡ taken_off n (setup_of self.old)) }
         ensures setup_err { OnErr result (setup_of self.new ≡ counted (setup_of self.old)) }
     {
@@ -51,7 +52,7 @@ impl Host for MemHost {
         ensures step { Converses (outside_of self.old) (outside_of self.new) }
         ensures others { LeavesDevice (outside_of self.old) (outside_of self.new) }
         ensures cause { HasCause (outside_of self.old).con_faults (outside_of self.new).con_faults result }
-        ensures rule { lacked_of self.new ≡ false → (lacked_of self.old ≡ false) × GoesBy (next_fate self.old) (is_ok result) (Some (gave bytes.now)) (Some (gave (take (length bytes.now / 2) bytes.now))) (outside_of self.old).history (outside_of self.new).history }
+        ensures rule { KeepsRule (Some (gave bytes.now)) (Some (gave (take (length bytes.now / 2) bytes.now))) (is_ok result) self.old self.new }
         ensures setup { setup_of self.new ≡ counted (setup_of self.old) }
     {
         let full = self.is_full();
@@ -79,7 +80,7 @@ impl Host for MemHost {
         ensures step { Converses (outside_of self.old) (outside_of self.new) }
         ensures others { LeavesDevice (outside_of self.old) (outside_of self.new) }
         ensures cause { HasCause (outside_of self.old).con_faults (outside_of self.new).con_faults result }
-        ensures rule { lacked_of self.new ≡ false → (lacked_of self.old ≡ false) × GoesBy (next_fate self.old) (is_ok result) (Some (told_moment (moment_at (setup_of self.old)))) None (outside_of self.old).history (outside_of self.new).history }
+        ensures rule { KeepsRule (Some (told_moment (moment_at (setup_of self.old)))) None (is_ok result) self.old self.new }
         ensures setup { OnOk result (setup_of self.new ≡ asked_again (setup_of self.old)) }
         ensures setup_err { OnErr result (setup_of self.new ≡ counted (setup_of self.old)) }
     {

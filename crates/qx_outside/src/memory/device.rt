@@ -12,18 +12,20 @@ use crate::schedule::{Fate, fault, lack};
 use crate::{Dev, Event, Failed, Recorded};
 
 impl Dev for MemHost {
-    ghost use Rattle.qx_outside.specs.Memory.{outside_of, setup_of, lacked_of, next_fate, counted, GoesBy, half_left};
+    ghost use Rattle.qx_outside.specs.Memory.{outside_of, setup_of, lacked_of, next_fate, counted, KeepsRule, half_left};
 
     ghost outside = { outside_of };
 
     fn attach(&mut self, path: &str, create: bool) -> Result<(), Failed>
         ensures step { Idles (outside_of self.old) (outside_of self.new) }
         ensures attached { Becomes (outside_of self.old).attached (outside_of self.new).attached (λ old new. new ≡ record { path = path.now; create = create } ∷ old) }
-        ensures kept { lacked_of self.new ≡ false → (outside_of self.new).attached ≡ option_map (λ old. record { path = path.now; create = create } ∷ old) (outside_of self.old).attached }
+        ensures kept { lacked_of self.new ≡ false
+            → (outside_of self.new).attached
+            ≡ option_map (λ old. record { path = path.now; create = create } ∷ old) (outside_of self.old).attached }
         ensures reads { (outside_of self.new).dev_reads ≡ (outside_of self.old).dev_reads }
         ensures console { (outside_of self.new).con_faults ≡ (outside_of self.old).con_faults }
         ensures cause { HasCause (outside_of self.old).dev_faults (outside_of self.new).dev_faults result }
-        ensures rule { lacked_of self.new ≡ false → (lacked_of self.old ≡ false) × GoesBy (next_fate self.old) (is_ok result) None None (outside_of self.old).history (outside_of self.new).history }
+        ensures rule { KeepsRule None None (is_ok result) self.old self.new }
         ensures setup { setup_of self.new ≡ counted (setup_of self.old) }
     {
         let kept = match &mut self.attached {
@@ -47,7 +49,7 @@ impl Dev for MemHost {
         ensures step { Idles (outside_of self.old) (outside_of self.new) }
         ensures others { LeavesRest (outside_of self.old) (outside_of self.new) }
         ensures cause { HasCause (outside_of self.old).dev_faults (outside_of self.new).dev_faults result }
-        ensures rule { lacked_of self.new ≡ false → (lacked_of self.old ≡ false) × GoesBy (next_fate self.old) (is_ok result) None None (outside_of self.old).history (outside_of self.new).history }
+        ensures rule { KeepsRule None None (is_ok result) self.old self.new }
         ensures good { next_fate self.old ≡ Fate.Good → IsOk result }
         ensures setup { setup_of self.new ≡ counted (setup_of self.old) }
     {
@@ -67,7 +69,8 @@ impl Dev for MemHost {
         ensures reads { (outside_of self.new).dev_reads ≡ (outside_of self.old).dev_reads }
         ensures others { LeavesConsole (outside_of self.old) (outside_of self.new) }
         ensures cause { HasCause (outside_of self.old).dev_faults (outside_of self.new).dev_faults result }
-        ensures rule { lacked_of self.new ≡ false → (lacked_of self.old ≡ false) × GoesBy (next_fate self.old) (is_ok result) (Some (sized len true)) (Some (sized len false)) (outside_of self.old).history (outside_of self.new).history }
+        ensures rule { KeepsRule (Some (sized len true)) (Some (sized len false))
+            (is_ok result) self.old self.new }
         ensures setup { setup_of self.new ≡ counted (setup_of self.old) }
     {
         let full = self.is_full();
@@ -94,14 +97,16 @@ impl Dev for MemHost {
 
     fn read_at(&mut self, at: u64, into: &mut [u8]) -> Result<(), Failed>
         requires { IfSome (outside_of self.old).extent (λ len. at + length into.old ≤ len) }
-        ensures bytes { OnOk result (IsTrue (outside_of self.new).tells → into.new ≡ slice_range (bytes_of (outside_of self.old).history) at (at + length into.old)) }
+        ensures bytes { OnOk result (IsTrue (outside_of self.new).tells
+            → into.new ≡ slice_range (bytes_of (outside_of self.old).history) at (at + length into.old)) }
         ensures step { Idles (outside_of self.old) (outside_of self.new) }
         ensures extent { StaysWhereTold (outside_of self.old).extent (outside_of self.new).extent }
-        ensures reads { OnOk result ((outside_of self.new).dev_reads ≡ option_map (λ n. n + 1) (outside_of self.old).dev_reads) }
+        ensures reads { OnOk result ((outside_of self.new).dev_reads
+            ≡ option_map (λ n. n + 1) (outside_of self.old).dev_reads) }
         ensures reads_err { OnErr result ((outside_of self.new).dev_reads ≡ (outside_of self.old).dev_reads) }
         ensures others { LeavesConsole (outside_of self.old) (outside_of self.new) }
         ensures cause { HasCause (outside_of self.old).dev_faults (outside_of self.new).dev_faults result }
-        ensures rule { lacked_of self.new ≡ false → (lacked_of self.old ≡ false) × GoesBy (next_fate self.old) (is_ok result) None None (outside_of self.old).history (outside_of self.new).history }
+        ensures rule { KeepsRule None None (is_ok result) self.old self.new }
         ensures good { next_fate self.old ≡ Fate.Good → IsOk result }
         ensures setup { setup_of self.new ≡ counted (setup_of self.old) }
     {
@@ -123,7 +128,9 @@ impl Dev for MemHost {
         ensures step { Writes at bytes.now (outside_of self.old) (outside_of self.new) }
         ensures others { LeavesRest (outside_of self.old) (outside_of self.new) }
         ensures cause { HasCause (outside_of self.old).dev_faults (outside_of self.new).dev_faults result }
-        ensures rule { lacked_of self.new ≡ false → (lacked_of self.old ≡ false) × GoesBy (next_fate self.old) (is_ok result) (Some (wrote at bytes.now bytes.now true)) (Some (wrote at bytes.now (half_left (bytes_of (outside_of self.old).history) at bytes.now) false)) (outside_of self.old).history (outside_of self.new).history }
+        ensures rule { KeepsRule (Some (wrote at bytes.now bytes.now true))
+            (Some (wrote at bytes.now (half_left (bytes_of (outside_of self.old).history) at bytes.now) false))
+            (is_ok result) self.old self.new }
         ensures setup { setup_of self.new ≡ counted (setup_of self.old) }
     {
         let full = self.is_full();
@@ -159,7 +166,8 @@ impl Dev for MemHost {
         ensures step { Syncs (outside_of self.old) (outside_of self.new) }
         ensures others { LeavesRest (outside_of self.old) (outside_of self.new) }
         ensures cause { HasCause (outside_of self.old).dev_faults (outside_of self.new).dev_faults result }
-        ensures rule { lacked_of self.new ≡ false → (lacked_of self.old ≡ false) × GoesBy (next_fate self.old) (is_ok result) (Some (synced true)) (Some (synced false)) (outside_of self.old).history (outside_of self.new).history }
+        ensures rule { KeepsRule (Some (synced true)) (Some (synced false))
+            (is_ok result) self.old self.new }
         ensures setup { setup_of self.new ≡ counted (setup_of self.old) }
     {
         let full = self.is_full();
