@@ -83,6 +83,7 @@ module _ (img : List ℕ) (which : Which) (s : Superblock) (active : active_area
       blocksize = refl;
       num_blocks = refl;
       num_inodes = refl;
+      limit = limit;
       held = is.met;
       live = is.live;
       free = free_is why limit;

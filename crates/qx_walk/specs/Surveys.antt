@@ -1,6 +1,8 @@
 -- What a walk answers of an image.
-use Rattle.std.specs.Prelude.{◌≡◌, ◌-◌, ℕ, List, length, Option, Some, None, Result, Ok, Err}
+use Rattle.std.specs.Prelude.{◌≡◌, ◌+◌, ◌-◌, ◌*◌, ◌≤◌, ℕ, IsTrue, List, length, Option, Some, None, Result, Ok, Err}
 use Rattle.qx_geom.specs.declared.area.Which.{Which}
+use Rattle.qx_geom.specs.declared.geometry.Geometry.{Geometry}
+use Rattle.qx_geom.specs.Layout.{blocks_begin, geometry_of, is_block_size}
 use Rattle.qx_super.specs.Active.{active_area, active_super}
 use Rattle.qx_super.specs.Superblock.{Superblock}
 use Rattle.qx_super.specs.declared.choice.Pick.TheVariants as picks
@@ -15,7 +17,7 @@ use Rattle.qx_walk.specs.declared.survey.WalkFault.TheVariants as faults
 use Rattle.qx_pointers.specs.declared.halt.Halt.{Halt}
 use Rattle.qx_pointers.specs.declared.halt.Halt.TheVariants as halts
 use Rattle.qx_pointers.specs.Marks.{Marks}
-use Rattle.qx_blockset.specs.Members.{count_of}
+use Rattle.qx_blockset.specs.Members.{count_of, limit_of}
 use Rattle.qx_walk.specs.declared.state.Walked.{Walked}
 
 -- the verdict on an image with a tree, of this active area and superblock
@@ -61,9 +63,17 @@ pub record IsSurvey (img : List ℕ) (survey : Survey) : Type 0 where
   pub blocksize : survey.blocksize ≡ superblock.blocksize
   pub num_blocks : survey.num_blocks ≡ superblock.num_blocks
   pub num_inodes : survey.num_inodes ≡ superblock.num_inodes
+  pub limit : limit_of survey.held ≡ superblock.num_blocks
   pub held : Marks survey.held (met_blocks (image_blocks img superblock) (main_roots superblock))
   pub live : survey.live ≡ length (walked_inodes (image_blocks img superblock) (main_roots superblock))
   pub free : survey.free_blocks ≡ free_if img superblock survey.foreign
+
+-- what holds of each survey of a device of this length, whether it tells or not: the set has the volume's blocks, these and the second area lie on the device, and a volume that isn't foreign has the numbers that this project writes
+pub record HasSurveyBounds (len : ℕ) (survey : Survey) : Type 0 where
+  pub size : IsTrue (is_block_size survey.blocksize)
+  pub limit : limit_of survey.held ≡ survey.num_blocks
+  pub room : blocks_begin + survey.num_blocks * survey.blocksize + 512 ≤ len
+  pub numbers : survey.foreign ≡ None → (g : Geometry) × (geometry_of len survey.blocksize survey.num_inodes ≡ Ok g) × (g.num_blocks ≡ survey.num_blocks)
 
 -- the fault of a walk that halted
 abbrev pub fault_of : Halt → WalkFault

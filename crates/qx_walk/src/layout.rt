@@ -1,5 +1,5 @@
 //! Whether a volume is laid out as this project writes it, and counted right.
-ghost use Rattle.std.specs.Prelude.{◌≡◌, ◌<◌, ◌≤◌, ◌+◌, ◌*◌, ℕ, not, Some, None, IfOk, IfSome};
+ghost use Rattle.std.specs.Prelude.{◌≡◌, ◌<◌, ◌≤◌, ◌+◌, ◌*◌, ℕ, not, Some, None, IfOk, IfSome, IsTrue, is_some};
 ghost use Rattle.qx_blockset.specs.Members.{limit_of};
 ghost use Rattle.qx_geom.specs.declared.area.Which.{Which as Area};
 ghost use Rattle.qx_geom.specs.Layout.{IsGeometry};
@@ -78,6 +78,7 @@ pub fn first_reason<D: Dev>(
     ensures reason { (m : BlockMap) (len : ℕ) → Shows shape (D.outside host.new) m
         → written_geometry view.now len ≡ geometry → IsWalked m (main_roots view.now) walked.now
         → IfOk result (λ why. why ≡ reason_with m view.now which geometry) }
+    ensures numbers { IfOk result (λ why. why ≡ None → IsTrue (is_some geometry)) }
     ensures asks { Asks (5 * shape.count) (D.outside host.old) (D.outside host.new) result }
 {
     let Some(geometry) = geometry else {

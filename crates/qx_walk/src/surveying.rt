@@ -1,5 +1,5 @@
 //! What an image is.
-ghost use Rattle.std.specs.Prelude.{◌≡◌, ◌+◌, ◌≤◌, ℕ, List, IfSome, IsTrue, Some};
+ghost use Rattle.std.specs.Prelude.{◌≡◌, ◌+◌, ◌≤◌, ℕ, List, IfOk, IfSome, IsTrue, Some};
 ghost use Rattle.qx_geom.specs.Layout.{is_block_size};
 ghost use Rattle.qx_outside.specs.Trail.{bytes_of};
 ghost use Rattle.qx_super.specs.Active.{active_area, active_super};
@@ -7,7 +7,7 @@ ghost use Rattle.qx_super.specs.Superblock.{second_place_of};
 ghost use Rattle.qx_super.specs.declared.choice.Pick.TheVariants as picks;
 ghost use Rattle.qx_walk.specs.declared.survey.WalkFault.TheVariants as faults;
 ghost use Rattle.qx_pointers.specs.Shown.{Looks};
-ghost use Rattle.qx_walk.specs.Surveys.{SaysOf, survey_by};
+ghost use Rattle.qx_walk.specs.Surveys.{HasSurveyBounds, SaysOf, survey_by};
 
 use crate::layout::{first_reason, geometry_of, last_of};
 use crate::tree::walk_tree;
@@ -23,6 +23,7 @@ use std::alloc::Global;
 pub fn walk<D: Dev>(alloc: Global, host: &mut D, len: u64) -> Result<Survey, WalkFault>
     requires len { IfSome (D.outside host.old).extent (λ n. n ≡ len) }
     ensures says { IsTrue (D.outside host.new).tells → SaysOf (bytes_of (D.outside host.old).history) result }
+    ensures bounds { IfOk result (HasSurveyBounds len) }
     ensures looks { Looks faults.Device 0 (len + 2) (D.outside host.old) (D.outside host.new) result }
 {
     let mut first = [0; 512];
@@ -49,6 +50,7 @@ fn survey<D: Dev>(
     requires sized { IsTrue (is_block_size view.now.blocksize) }
     requires room { second_place_of view.now + 512 ≤ len }
     ensures says { (img : List ℕ) → IsTrue (D.outside host.new).tells → bytes_of (D.outside host.old).history ≡ img → active_area img ≡ picks.Active which → active_super img ≡ Some view.now → SaysOf img result }
+    ensures bounds { IfOk result (HasSurveyBounds len) }
     ensures looks { Looks faults.Device 0 len (D.outside host.old) (D.outside host.new) result }
 {
     let shape = Shape {

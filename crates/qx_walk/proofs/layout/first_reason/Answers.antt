@@ -1,6 +1,6 @@
 use Rattle.std.proofs.lemmas.Result.{err_from_is_err_and}
-use Rattle.std.proofs.Common.{◌≡◌, ◌+◌, ◌*◌, ◌≤◌, sym, ◌∙◌, subst, arith}
-use Rattle.std.specs.Prelude.{IfSome, Option, Some}
+use Rattle.std.proofs.Common.{◌≡◌, ◌+◌, ◌*◌, ◌≤◌, sym, ◌∙◌, ap, subst, arith}
+use Rattle.std.specs.Prelude.{IfSome, Option, Some, is_some}
 use Rattle.qx_geom.proofs.VolumeNumbers.{IsGeometry-keeps}
 use Rattle.qx_geom.specs.declared.geometry.Geometry.{Geometry}
 use Rattle.qx_pointers.specs.declared.source.Shape.{Shape}
@@ -62,3 +62,9 @@ pub returns-clause-asks : goal.returns-clause-asks
 returns-clause-asks g c =
     let has = subst (λ o. IfSome o (HasNumbers c.args.view.now)) c.in-Some.is c.requires.geometry in
     asks_then _ _ _ (g.D.Dev.outside c.args.host.now) (g.D.Dev.outside c.is_laid_out.new.host) (g.D.Dev.outside c.first_wrong_bit.new.host) c.in_ok-is_laid_out.field-0 c.in_ok-at.field-0 _ (few c.args.shape c.args.view.now c.in-Some.geometry c.requires.shape has) c.in_ok-is_laid_out.ensures.asks c.in_ok-at.ensures.asks
+
+pub returns-in-Some-2-clause-numbers : goal.returns-in-Some-2-clause-numbers
+returns-in-Some-2-clause-numbers g c = λ none. ap is_some c.in-Some.is
+
+pub returns-clause-numbers : goal.returns-clause-numbers
+returns-clause-numbers g c = λ none. ap is_some c.in-Some.is

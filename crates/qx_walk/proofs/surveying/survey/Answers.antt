@@ -8,11 +8,12 @@ use Rattle.qx_super.specs.Superblock.{Superblock}
 use Rattle.qx_view.specs.Images.{Roots, image_blocks, main_roots}
 use Rattle.qx_view.specs.Sound.{reason_with, written_geometry}
 use Rattle.qx_view.specs.Walk.{finding_of}
-use Rattle.qx_walk.specs.Surveys.{IsFault, IsSurvey}
+use Rattle.qx_walk.specs.Surveys.{HasSurveyBounds, IsFault, IsSurvey}
 use Rattle.qx_walk.specs.Trees.{IsWalked}
 use Rattle.qx_pointers.specs.declared.halt.Halt.TheVariants as halts
 use Rattle.qx_walk.proofs.StepsInOrder.{asks_looks, looks_then}
 use Rattle.qx_walk.proofs.SurveyReads.{survey_ends, survey_few, survey_finds, survey_halts}
+use Rattle.qx_walk.proofs.WrittenNumbers.{written_numbers}
 use Rattle.qx_walk.proofs.Surveyed.{halted, halted_last, no_reason, shown_blocks, surveyed}
 use Rattle.qx_walk.proofs.surveying.survey.Goals as goal
 
@@ -69,6 +70,14 @@ pub returns-in-Some-clause-looks : goal.returns-in-Some-clause-looks
 returns-in-Some-clause-looks g c =
     survey_finds ((c.num_blocks.result * (c.blocksize.result / 8)) + (5 * c.num_blocks.result)) c.args.len (g.D.Dev.outside c.args.host.now) (g.D.Dev.outside c.first_reason.new.host) c.in-Ok-first_reason.foreign c.in-Some.finding (survey_few c.args.view.now c.blocksize.result c.num_blocks.result c.args.len c.requires.sized c.blocksize.ensures c.num_blocks.ensures c.requires.room)
     (looks_then halts.Device 0 (c.num_blocks.result * (c.blocksize.result / 8)) 0 (5 * c.num_blocks.result) 0 ((c.num_blocks.result * (c.blocksize.result / 8)) + (5 * c.num_blocks.result)) (g.D.Dev.outside c.args.host.now) (g.D.Dev.outside c.walk_tree.new.host) (g.D.Dev.outside c.first_reason.new.host) c.in-Ok.walked (Ok c.in-Ok-first_reason.foreign) (omega arith) c.in-Ok.ensures.looks (asks_looks (5 * c.num_blocks.result) (g.D.Dev.outside c.walk_tree.new.host) (g.D.Dev.outside c.first_reason.new.host) _ c.in-Ok-first_reason.ensures.asks))
+
+pub returns-in-None-clause-bounds : goal.returns-in-None-clause-bounds
+returns-in-None-clause-bounds g c = subst (HasSurveyBounds c.args.len) (sym c.survey_of.ensures) (record {
+  size = c.requires.sized;
+  limit = c.in-Ok.ensures.bounds.blocks ∙ c.num_blocks.ensures;
+  room = c.requires.room;
+  numbers = λ none. written_numbers c.args.view.now c.args.len c.geometry_of-geometry.result c.geometry_of-geometry.ensures.geometry (c.in-Ok-first_reason.ensures.numbers none);
+})
 
 pub returns-in-None-clause-looks : goal.returns-in-None-clause-looks
 returns-in-None-clause-looks g c =
