@@ -121,6 +121,30 @@ fn first_wrong<'a>(alloc: Global, order: Order, rows: &'a str) -> Result<Option<
     Ok(None)
 }
 
+/// How often the checker reads a volume with changes.
+fn reads_of(alloc: Global, name: &str, said: &str) -> Result<u64, Fail> {
+    let mut device = volume(alloc, Order::Little, name)?;
+    change_all(&mut device, said)?;
+    Ok(ran(alloc, &["chkqnx6fs", "x"], device, &[])?.reads)
+}
+
+#[test]
+fn a_volume_is_read_no_more_often_than_it_has_bytes(rt: HostRuntime) -> Result<(), Fail> {
+    let alloc = rt.alloc();
+    // Both areas, the Inode tree's leaves in one call, the root directory and the bitmap.
+    assert_eq!(rt; reads_of(alloc, "empty", "")?, 5);
+    // Two directories whose records name one leaf of the Longfile, which is read for each; and one with such records alone.
+    let twice = "4700:04.00.00.00.ff 470c:83.40.55.55";
+    let often =
+        "4860:04.00.00.00.ff 486c:83.40.55.55 4880:04.00.00.00.ff 488c:83.40.55.55 48a0:04.00.00.00.ff 48ac:83.40.55.55";
+    let whole = reads_of(alloc, "tree", "")?;
+    assert_eq!(rt; reads_of(alloc, "tree", twice)?, whole.saturating_add(1));
+    for changes in ["", twice, often] {
+        assert!(rt; reads_of(alloc, "tree", changes)? <= 65536 + 2, "{changes}");
+    }
+    Ok(())
+}
+
 #[test]
 fn changed_areas_have_their_lines_in_little_order(rt: HostRuntime) -> Result<(), Fail> {
     let wrong = first_wrong(rt.alloc(), Order::Little, little::AREAS)?;
