@@ -1,7 +1,7 @@
 //! Blocks by number, in ascending order, with buffers for more.
 ghost use Rattle.std.specs.Prelude.{◌≡◌, ◌≢◌, ◌⊎◌, ◌+◌, [], ◌∷◌, ◌++◌, All, insert, remove, slice_index_or, vec_len, vec_capacity, ◌<◌, ◌≤◌, ◌^◌, ℕ, List, IfSome, IfNone, IsTrue, MatchOption, OnOk, OnErr, Some, length, max, slice_index};
 ghost use Rattle.std.specs.VecDeque.{deque_len, deque_capacity};
-ghost use Rattle.std.specs.Option.{option_copied, option_copied_mut};
+ghost use Rattle.std.specs.Option.{option_copied};
 ghost use Rattle.std.specs.FinMap.{contains_key, empty, get, len};
 ghost use Rattle.std.specs.Borrow.{sem, Lends, Array, u8 as byte};
 ghost use Rattle.qx_patch.specs.PatchState.{IsLeast, edited_in, with_block, without_block};
@@ -79,10 +79,10 @@ impl Patch {
         Some(entry.bytes.as_slice())
     }
 
-    /// Makes room for at least n more blocks. Room that was made before memory ran out stays.
+    /// Makes room for at least n more blocks, or for no more than there was where memory runs out.
     pub fn reserve(&mut self, n: usize) -> Result<(), AllocError>
         ensures ok { OnOk result (self.new.spare ≡ max self.old.spare n) }
-        ensures err { OnErr result (self.old.spare ≤ self.new.spare) }
+        ensures err { OnErr result (self.new ≡ self.old) }
         ensures size { self.new.size ≡ self.old.size }
         ensures blocks { self.new.blocks ≡ self.old.blocks }
     {
@@ -91,7 +91,11 @@ impl Patch {
         self.entries.reserve(spare.saturating_add(more))?;
         self.spares
             .reserve(self.entries.len().saturating_add(more))?;
-        add_buffers(self.alloc, &mut self.spares, self.size, more)
+        let added = add_buffers(self.alloc, &mut self.spares, self.size, more);
+        if added.is_err() {
+            self.spares.truncate(spare);
+        }
+        added
     }
 
     /// Gives a block these bytes, in its own room or in one that is spare.
@@ -149,17 +153,6 @@ impl Patch {
         };
         let entry = &mut self.entries[at];
         entry.bytes.as_mut_slice()
-    }
-
-    /// Lends the bytes of a block for writing, where it is there. What is left in them is said by `bytes_mut` alone.
-    pub fn get_mut(&mut self, b: u32) -> Option<&mut [u8]>
-        ensures { option_copied_mut result ≡ get self.old.blocks b }
-    {
-        if self.has(b) {
-            Some(self.bytes_mut(b))
-        } else {
-            None
-        }
     }
 }
 

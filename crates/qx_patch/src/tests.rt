@@ -65,10 +65,9 @@ fn room_is_made_up_to_what_is_asked(rt: HostRuntime) -> Result<(), Fail> {
 #[test]
 fn what_is_written_into_lent_bytes_is_kept(rt: HostRuntime) -> Result<(), Fail> {
     let mut patch = filled(rt.alloc(), &[2, 1])?;
-    assert!(rt; patch.get_mut(3).is_none());
-    if let Some(bytes) = patch.get_mut(2) {
-        bytes.fill(9);
-    }
+    assert!(rt; !patch.has(3));
+    assert!(rt; patch.has(2));
+    patch.bytes_mut(2).fill(9);
     assert!(rt; patch.has(1));
     patch.bytes_mut(1).fill(6);
     assert_eq!(rt; patch.get(1).unwrap_or(b"none"), [6; 4].as_slice());
