@@ -1,5 +1,5 @@
 -- What is seen below a pointer of a node.
-use Rattle.std.specs.Prelude.{◌≡◌, ◌+◌, ◌*◌, ◌^◌, ◌<◌, ◌&&◌, ℕ, Option, None, zero, suc, Bool, false, not, ◌||◌, List, [], ◌∷◌, map, filter, length, nat_le, ◌==◌, if◌then◌else◌}
+use Rattle.std.specs.Prelude.{◌≡◌, ◌+◌, ◌*◌, ◌^◌, ◌<◌, ◌≤◌, ◌&&◌, ℕ, Option, None, zero, suc, Bool, false, not, ◌||◌, List, [], ◌∷◌, map, filter, length, nat_le, ◌==◌, if◌then◌else◌}
 use Rattle.std.specs.List.{find, list_any}
 use Rattle.std.specs.Option.{option_map, option_or}
 use Rattle.qx_geom.specs.Lists.{each_below}
@@ -20,6 +20,11 @@ place_of v = record { index = v.index; block = v.block }
 -- the leaves among these visits, in order, where they are kept
 abbrev pub kept_leaves : Bool → List Visit → List LeafPlace
 kept_leaves keeps visits = if keeps then map place_of (filter is_leaf visits) else []
+
+-- a node has five levels at most, and they reach its size
+pub record IsInReach (shape : Shape) (node : Root) : Type 0 where
+  pub levels : node.levels ≤ 5
+  pub size : ceil_div node.size shape.blocksize ≤ 16 * per_block shape.blocksize ^ node.levels
 
 -- a leaf is a block's, and lies below the size of its node
 pub record IsPlaced (shape : Shape) (node : Root) (leaf : LeafPlace) : Type 0 where

@@ -7,7 +7,7 @@ ghost use Rattle.qx_nodes.specs.Content.{levels_fit, root_fits};
 ghost use Rattle.qx_nodes.specs.Visits.{visits_of};
 ghost use Rattle.qx_view.specs.Walk.{node_tests};
 ghost use Rattle.qx_pointers.specs.Marks.{Follows, GoesThrough};
-ghost use Rattle.qx_pointers.specs.Parts.{IsPlaced, IsWhole, joined, kept_leaves, nothing};
+ghost use Rattle.qx_pointers.specs.Parts.{IsInReach, IsPlaced, IsWhole, joined, kept_leaves, nothing};
 ghost use Rattle.qx_pointers.specs.Shown.{Fits, Shows};
 
 use crate::pointers::{Position, visit_each};
@@ -128,6 +128,7 @@ pub fn walk_node<D: Dev>(
     // Whether the device tells or not.
     ensures bounds { OnOk result (ceil_div node.now.size visitor.now.shape.blocksize
         ≤ reach visitor.now.shape.blocksize 5) }
+    ensures reach { OnOk result (IsInReach visitor.now.shape node.now) }
     ensures bounded { OnOk result (IsTrue visitor.now.bounded
         → node.now.size ≤ visitor.now.shape.count * visitor.now.shape.blocksize) }
     ensures placed { OnOk result (All (IsPlaced visitor.now.shape node.now) leaves.new.items) }

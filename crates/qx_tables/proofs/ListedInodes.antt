@@ -33,6 +33,8 @@ none_listing l places empty first none = record {
   taken = omega (arith, first);
   queued = All-same (λ (q : Queued). (0 < q.inode) × (q.inode ≤ places)) l.queue.items no_one empty (All-nil (λ (q : Queued). (0 < q.inode) × (q.inode ≤ places)));
   counted = ap count_of none ∙ count-none places ∙ sym (ap (λ (qs : List Queued). length qs) empty);
+  members = λ n pos there.
+      ap (λ (set : Members). has set (n - 1)) none ∙ get_or-replicate places (n - 1) false false (omega (arith, pos, there)) ∙ sym (ap (λ (qs : List Queued). is_in (map (λ (q : Queued). q.inode) qs) n) empty);
 }
 
 -- the pairs that are left, with one more

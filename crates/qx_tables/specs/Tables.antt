@@ -1,5 +1,5 @@
 -- What the walk keeps of a volume: its inodes, the leaves of its Longfile, and the names of the directory under the walk.
-use Rattle.std.specs.Prelude.{All, drop, ◌≡◌, ◌+◌, ◌*◌, ◌/◌, ◌%◌, ◌<◌, ◌≤◌, ◌^◌, ◌-◌, ◌&&◌, ◌⊎◌, ℕ, Bool, true, not, IsTrue, List, Contains, bytes_eq, count_by, length, map, min, nat_lt, Option, Some, slice_get, slice_index_or, slice_range, filter, if◌then◌else◌, ◌==◌}
+use Rattle.std.specs.Prelude.{All, drop, ◌≡◌, ◌+◌, ◌*◌, ◌/◌, ◌%◌, ◌<◌, ◌≤◌, ◌^◌, ◌-◌, ◌&&◌, ◌⊎◌, ℕ, Bool, true, not, IsTrue, List, Contains, bytes_eq, count_by, length, map, min, nat_lt, Option, Some, slice_get, slice_index_or, slice_range, filter, take, if◌then◌else◌, ◌==◌}
 use Rattle.std.specs.List.{HoldsAt, list_any}
 use Rattle.qx_geom.specs.Layout.{is_block_size}
 use Rattle.qx_geom.specs.declared.root.Root.{Root}
@@ -10,6 +10,8 @@ use Rattle.qx_nodes.specs.Visits.{Visit, present_of, visits_of}
 use Rattle.qx_pointers.specs.declared.node.LeafPlace.{LeafPlace}
 use Rattle.qx_blockset.specs.Members.{count_of, has, limit_of}
 use Rattle.qx_geom.specs.Lists.{is_in}
+use Rattle.qx_records.specs.declared.inode.Inode.{Inode}
+use Rattle.qx_records.specs.InodeRecord.{inode_in}
 use Rattle.qx_tables.specs.declared.listing.Listing.{Listing}
 use Rattle.qx_tables.specs.declared.listing.Queued.{Queued}
 use Rattle.qx_tables.specs.declared.long_names.LongLeaf.{LongLeaf}
@@ -29,6 +31,10 @@ pub record AreLeaves (m : BlockMap) (node : Root) (leaves : List LeafPlace) : Ty
 -- how many inodes a table has places for
 abbrev pub places_of : InodeTable → ℕ
 places_of table = if nat_lt (table.size / 128) (2 ^ 32) then table.size / 128 else 2 ^ 32 - 1
+
+-- inode n of a table, as its bytes say
+abbrev pub inode_at : InodeTable → ℕ → Inode
+inode_at table n = inode_in table.order (slice_range table.bytes.items ((n - 1) * 128) ((n - 1) * 128 + 128))
 
 -- the bytes of leaf i among those of all leaves, one after another
 abbrev pub leaf_range : ℕ → List ℕ → ℕ → List ℕ
@@ -106,6 +112,14 @@ pub record HasNames (set : Names) (names : List (List ℕ)) : Type 0 where
 abbrev pub pair_of : Queued → ℕ × ℕ
 pair_of q = (q.inode, q.parent)
 
+-- the inodes of a list, in the order in which they were listed
+abbrev pub inodes_on : Listing → List ℕ
+inodes_on l = map (λ (q : Queued). q.inode) l.queue.items
+
+-- those that were taken, with the directories that list them
+abbrev pub taken_in : Listing → List Queued
+taken_in l = take l.next l.queue.items
+
 -- these inodes are still to be taken, in this order, and these were listed
 pub record HasListed (left : List (ℕ × ℕ)) (listed : List ℕ) (l : Listing) : Type 0 where
   pub taken : l.next ≤ length l.queue.items
@@ -118,3 +132,4 @@ pub record IsListing (places : ℕ) (l : Listing) : Type 0 where
   pub taken : l.next ≤ length l.queue.items
   pub queued : All (λ (q : Queued). (0 < q.inode) × (q.inode ≤ places)) l.queue.items
   pub counted : count_of l.listed ≡ length l.queue.items
+  pub members : (n : ℕ) → 0 < n → n ≤ places → has l.listed (n - 1) ≡ is_in (inodes_on l) n

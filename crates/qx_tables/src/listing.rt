@@ -23,12 +23,12 @@ pub struct Listing {
 }
 
 impl Listing {
-    ghost use Rattle.std.specs.Prelude.{◌≡◌, ◌+◌, ◌-◌, ◌∷◌, ◌++◌, [], ◌<◌, ◌≤◌, ℕ, List, false, length, map, IfOk, IfSome, IfNone, OnOk, OnErr, Err};
+    ghost use Rattle.std.specs.Prelude.{◌≡◌, ◌+◌, ◌-◌, ◌∷◌, ◌++◌, [], ◌<◌, ◌≤◌, ℕ, List, false, length, map, ◌⊎◌, IfOk, IfSome, IfNone, OnOk, OnErr, Err};
     ghost use Rattle.qx_blockset.specs.Members.{count_of, has, limit_of};
     ghost use Rattle.qx_geom.specs.Lists.{is_in};
     ghost use Rattle.qx_view.specs.Walk.{listed_after, new_ones};
     ghost use Rattle.qx_pointers.specs.declared.halt.Halt.TheVariants as halts;
-    ghost use Rattle.qx_tables.specs.Tables.{HasListed, IsListing, pair_of};
+    ghost use Rattle.qx_tables.specs.Tables.{HasListed, IsListing, pair_of, taken_in};
 
     /// A list of inode 1 alone, which is its own parent, among so many inodes.
     pub fn new(alloc: Global, places: u32) -> Result<Listing, Halt>
@@ -36,6 +36,7 @@ impl Listing {
         ensures listed { IfOk result (HasListed ((1, 1) ∷ []) (1 ∷ [])) }
         ensures listing { IfOk result (IsListing places) }
         ensures next { IfOk result (λ l. l.next ≡ 0) }
+        ensures queue { IfOk result (λ l. l.queue.items ≡ (record { inode = 1; parent = 1 }) ∷ []) }
         ensures no_fault { OnErr result (result ≡ Err halts.NoMemory) }
     {
         let mut listing = Listing {
@@ -58,6 +59,8 @@ impl Listing {
             → IfSome result (λ q. (0 < q.inode) × (q.inode ≤ places)) }
         ensures next { IfSome result (λ q. self.new.next ≡ self.old.next + 1) }
         ensures last { IfNone result (self.new.next ≡ self.old.next) }
+        ensures taken { IfSome result (λ q. taken_in self.new ≡ taken_in self.old ++ q ∷ []) }
+        ensures all { IfNone result (taken_in self.new ≡ self.new.queue.items) }
 
         // All that were listed stay so.
         ensures queue { self.new.queue.items ≡ self.old.queue.items }
@@ -86,6 +89,9 @@ impl Listing {
             → OnOk result (HasListed (queue ++ map (λ k. (k, parent)) (new_ones (n ∷ []) listed)) (listed_after (n ∷ []) listed) self.new) }
         ensures listing { (places : ℕ) → IsListing places self.old → IsListing places self.new }
         ensures next { self.new.next ≡ self.old.next }
+        ensures taken { (places : ℕ) → IsListing places self.old → taken_in self.new ≡ taken_in self.old }
+        ensures queue { (self.new.queue.items ≡ self.old.queue.items)
+            ⊎ (self.new.queue.items ≡ self.old.queue.items ++ (record { inode = n; parent = parent }) ∷ []) }
         ensures longer { OnOk result (has self.old.listed (n - 1) ≡ false
             → length self.new.queue.items ≡ length self.old.queue.items + 1) }
         ensures no_fault { OnErr result (result ≡ Err halts.NoMemory) }

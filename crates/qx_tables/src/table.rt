@@ -33,7 +33,7 @@ impl InodeTable {
     ghost use Rattle.qx_pointers.specs.Halts.{HaltsAt};
     ghost use Rattle.qx_pointers.specs.Parts.{IsPlaced};
     ghost use Rattle.qx_pointers.specs.Shown.{Fits, Looks, ReadsOnce, Shows};
-    ghost use Rattle.qx_tables.specs.Tables.{AreLeaves, HoldsInodes, IsApart, leaf_range, places_of};
+    ghost use Rattle.qx_tables.specs.Tables.{AreLeaves, HoldsInodes, IsApart, inode_at, leaf_range, places_of};
 
     /// Reads the leaves of the Inode tree.
     pub fn read<D: Dev>(
@@ -49,6 +49,7 @@ impl InodeTable {
         ensures holds { (m : BlockMap) → Shows shape (D.outside host.new) m
             → AreLeaves m inodes.now leaves.now → IfOk result (HoldsInodes m inodes.now) }
         ensures places { IfOk result (λ table. places_of table ≡ places_in inodes.now) }
+        ensures covers { IfOk result (λ table. places_of table * 128 ≤ length table.bytes.items) }
         ensures looks { Looks halts.Device 0 (length leaves.now) (D.outside host.old) (D.outside host.new) result }
 
         // An Err is no finding.
@@ -81,7 +82,8 @@ impl InodeTable {
     /// Inode n.
     pub fn inode(&self, n: u32) -> Inode
         requires { (0 < n) × (n ≤ places_of self.now) }
-        ensures { (m : BlockMap) (inodes : node) → HoldsInodes m inodes self.now
+        ensures own { result ≡ inode_at self.now n }
+        ensures shown { (m : BlockMap) (inodes : node) → HoldsInodes m inodes self.now
             → result ≡ inode_of m inodes n }
     {
         InodeView::new(self.bytes_of(n), self.order).get()

@@ -10,6 +10,7 @@ pub mod LeafDots
 pub mod LeafRecords
 pub mod LeafWalks
 pub mod LeastNotes
+pub mod ListedInodes
 pub mod OtherHalf
 pub mod OuterBlocks
 pub mod OwnNodes

@@ -2,6 +2,7 @@
 use Rattle.std.proofs.Common.{◌≡◌, ℕ, List, [], ◌∷◌, ◌++◌, refl, ap, sym, ◌∙◌, subst}
 use Rattle.std.specs.Prelude.{Bool, true, false, not, ◌&&◌, ◌==◌, Option, Some, None, is_some, unwrap_or, Result, Ok, Err, OnErr, OnOk, bytes_eq, length, map, option_and_then, if◌then◌else◌}
 use Rattle.std.specs.List.{list_any}
+use Rattle.std.proofs.lemmas.List.{append-nil}
 use Rattle.qx_geom.specs.Lists.{is_in}
 use Rattle.qx_model.specs.Tree.{Row, is_dots, named_by}
 use Rattle.qx_nodes.specs.BlockMap.{BlockMap}
@@ -42,6 +43,10 @@ first_again : (met : List ℕ) (at : Place) (p q d w a k o : Bool) → p ≡ tru
     → first_failing met (tests_by at p q d w a k o) ≡ Some (record { code = codes.DirTwice; inode = at.inode; block = at.block })
 first_again met at p q d w a k o e f g h i j = rw (e, f, g, h, i, j)
 
+-- none fails of a row that is `.` or `..` as it has to be
+dots_row : (met : List ℕ) (at : Place) (p q d w a k o : Bool) → p ≡ true → q ≡ true → d ≡ true → w ≡ true → first_failing met (tests_by at p q d w a k o) ≡ None
+dots_row met at p q d w a k o e f g h = rw (e, f, g, h)
+
 -- ---- a row with a name
 
 -- no earlier row has the name
@@ -72,6 +77,16 @@ walks_row m r at n name kept seen (Ok x) plain new d a k once fault names listin
       (record { names = names; listing = listed_same _ _ _ _ seen.listing refl (one_listed n kept.listed) listing; longs = longs });
 }
 walks_row m r at n name kept seen (Err halt) plain new d a k once fault names listing longs = row_unsaid m r at n name kept seen (Err halt) fault
+
+-- and those list nothing
+pub walks_dots : {T : Type 0} (m : BlockMap) (r : Roots) (at : Place) (n : ℕ) (name : List ℕ) (kept : Kept) (seen : Seen) (x : T)
+    → is_plain name ≡ true → is_new name kept ≡ true → is_dots name ≡ true → is_wanted at n name ≡ true → HasNames seen.names (name ∷ kept.names)
+    → HasListed kept.queue kept.listed seen.listing → HoldsNames m r.longfile kept.numbers seen.longs → WalksRow {T = T} m r at n name kept (Ok x) seen
+walks_dots m r at n name kept seen x plain new d wanted names listing longs = record {
+  answer = λ met. dots_row met at (is_plain name) (is_new name kept) (is_dots name) (is_wanted at n name) (has_inode r.inodes n) (is_some (kind_of (inode_mode m r n))) (is_once m r n kept) plain new d wanted;
+  holds = subst (λ o. Holds m r.longfile (with_row at.inode (name ∷ []) o None kept) seen) (sym (ap (λ b. if b then None else Some n) d))
+      (record { names = names; listing = subst (λ queue. HasListed queue kept.listed seen.listing) (sym (append-nil kept.queue)) listing; longs = longs });
+}
 
 -- a directory that was listed ends the walk
 pub walks_again : {T : Type 0} (m : BlockMap) (r : Roots) (at : Place) (n : ℕ) (name : List ℕ) (kept : Kept) (seen : Seen) (halt : Halt) → halt ≡ halts.Finding (record { code = codes.DirTwice; inode = at.inode; block = at.block })

@@ -12,6 +12,7 @@ use Rattle.qx_pointers.specs.Halts.{Asks}
 use Rattle.qx_pointers.specs.Shown.{JustReads, Looks, ReadsOnce}
 use Rattle.qx_view.specs.declared.findings.Finding.{Finding}
 use Rattle.qx_tables.specs.Tables.{AreInside, IsListing, places_of}
+use Rattle.qx_walk.proofs.ListedInodes.{lists_same}
 use Rattle.qx_walk.specs.declared.state.Ground.{Ground}
 use Rattle.qx_walk.specs.declared.state.Seen.{Seen}
 use Rattle.qx_walk.specs.declared.state.Way.{Way}
@@ -87,24 +88,28 @@ module _ (ground : Ground) where
   lists_then j k most a b c h i o x r few p q = record {
     inside = q.inside;
     listing = q.listing;
+    listed = q.listed;
     next = q.next ∙ p.next;
+    taken = q.taken ∙ p.taken;
     looks = looks_then halts.Device 0 j 0 k 0 most h i o x r (omega (arith, few)) p.looks q.looks;
   }
 
   -- what an Ok holds isn't looked at
   pub lists_ok : {T U : Type 0} (j most : ℕ) (a b : Seen) (h i : Outside) (x : T) (y : U) → j ≤ most → Lists ground j a b h i (Ok x) → Lists ground most a b h i (Ok y)
-  lists_ok j most a b h i x y few p = record { inside = p.inside; listing = p.listing; next = p.next; looks = looks_ok halts.Device 0 j 0 most h i x y (omega (arith, few)) p.looks }
+  lists_ok j most a b h i x y few p = record { inside = p.inside; listing = p.listing; listed = p.listed; next = p.next; taken = p.taken; looks = looks_ok halts.Device 0 j 0 most h i x y (omega (arith, few)) p.looks }
 
   -- nor is what it would hold at a halt
   pub lists_err : {T U : Type 0} (j most : ℕ) (a b : Seen) (h i : Outside) (halt : Halt) → j ≤ most → Lists {T = T} ground j a b h i (Err halt) → Lists {T = U} ground most a b h i (Err halt)
-  lists_err j most a b h i halt few p = record { inside = p.inside; listing = p.listing; next = p.next; looks = looks_err halts.Device 0 j 0 most h i halt (omega (arith, few)) p.looks }
+  lists_err j most a b h i halt few p = record { inside = p.inside; listing = p.listing; listed = p.listed; next = p.next; taken = p.taken; looks = looks_err halts.Device 0 j 0 most h i halt (omega (arith, few)) p.looks }
 
   -- a block was read, and then records were walked
   pub lists_read : {T U F : Type 0} (j most : ℕ) (a b : Seen) (h i o : Outside) (x : T) (r : Result U Halt) → 1 + j ≤ most → ReadsOnce {E = F} h i (Ok x) → Lists ground j a b i o r → Lists ground most a b h o r
   lists_read j most a b h i o x r few once p = record {
     inside = p.inside;
     listing = p.listing;
+    listed = p.listed;
     next = p.next;
+    taken = p.taken;
     looks = looks_after halts.Device 1 0 j 0 most h i o r (omega (arith, few)) once.reads once.cause.kept p.looks;
   }
 
@@ -117,22 +122,24 @@ module _ (ground : Ground) where
     met = q.met;
     inside = q.inside;
     listing = q.listing;
+    listed = q.listed;
     looks = looks_then halts.Device (reads_of ground.shape u a) (reads_of ground.shape v b + 0) (reads_of ground.shape v t) (reads_of ground.shape w c + 1) (reads_of ground.shape u a) (reads_of ground.shape w c + 0) h i o x r (omega (arith, one)) p.looks q.looks;
   }
 
   -- the list has no more
-  pub carries_last : {T U : Type 0} (u v : Way) (a b t : Seen) (h i : Outside) (x : T) (y : U) → t.longs ≡ b.longs → IsListing (places_of ground.table) t.listing → t.listing.next ≡ b.listing.next
+  pub carries_last : {T U : Type 0} (u v : Way) (a b t : Seen) (h i : Outside) (x : T) (y : U) → t.longs ≡ b.longs → IsListing (places_of ground.table) t.listing → t.listing.queue.items ≡ b.listing.queue.items → t.listing.next ≡ b.listing.next
       → Carries ground 0 u v a b h i (Ok x) → Carries ground 0 u v a t h i (Ok y)
-  carries_last u v a b t h i x y longs listing next p = record {
+  carries_last u v a b t h i x y longs listing queue next p = record {
     met = p.met;
     inside = subst (AreInside ground.shape.count) (sym longs) p.inside;
     listing = listing;
+    listed = lists_same ground b.listing t.listing queue p.listed;
     looks = looks_ok halts.Device _ _ _ _ h i x y (omega (arith, next)) p.looks;
   }
 
   -- what an Ok holds isn't looked at
   pub carries_ok : {T U : Type 0} (more : ℕ) (u v : Way) (a b : Seen) (h i : Outside) (x : T) (y : U) → Carries ground more u v a b h i (Ok x) → Carries ground more u v a b h i (Ok y)
-  carries_ok more u v a b h i x y p = record { met = p.met; inside = p.inside; listing = p.listing; looks = looks_ok halts.Device _ _ _ _ h i x y (omega arith) p.looks }
+  carries_ok more u v a b h i x y p = record { met = p.met; inside = p.inside; listing = p.listing; listed = p.listed; looks = looks_ok halts.Device _ _ _ _ h i x y (omega arith) p.looks }
 
   -- the node of an inode that was taken, and no records
   carries_node : {T U : Type 0} (u v : Way) (s : Seen) (h i : Outside) (r : Result T Halt) (q : Result U Halt) → (q ≡ Err halts.Device → r ≡ Err halts.Device) → (r ≡ Err halts.Device → q ≡ Err halts.Device)
@@ -142,6 +149,7 @@ module _ (ground : Ground) where
     met = limit ∙ is.met;
     inside = is.inside;
     listing = is.listing;
+    listed = is.listed;
     looks = looks_as halts.Device _ _ _ _ h i r q (omega (arith, spent (leaf_reads ground.shape) 0 (count_of u.met) (count_of v.met) (omega (arith, few)))) back on p;
   }
 
@@ -168,6 +176,7 @@ module _ (ground : Ground) where
     met = ap limit_of same ∙ limit ∙ is.met;
     inside = q.inside;
     listing = q.listing;
+    listed = q.listed;
     looks = looks_then halts.Device _ _ _ _ _ _ h i o x r (omega (arith, ap count_of same, ap (λ n. (1 + leaf_reads ground.shape) * count_of n) same, q.next, spent (leaf_reads ground.shape) (length v.leaves.items) (count_of u.met) (count_of v.met) few)) p q.looks;
   }
 

@@ -17,9 +17,9 @@ ghost use Rattle.qx_pointers.specs.declared.halt.Halt.TheVariants as halts;
 ghost use Rattle.qx_walk.specs.Kept.{Kept};
 ghost use Rattle.qx_pointers.specs.Parts.{IsPlaced};
 ghost use Rattle.qx_walk.specs.Rows.{Holds, NamesSome, WalksRecord, WalksRecords, WalksRow, WalksThrough, begins_with_dots, dots_in, record_place};
-ghost use Rattle.qx_walk.specs.Steps.{IsReading, Lists, leaf_reads};
+ghost use Rattle.qx_walk.specs.Steps.{IsReading, Lists, ListsInodes, leaf_reads};
 ghost use Rattle.qx_pointers.specs.Shown.{Shows};
-ghost use Rattle.qx_tables.specs.Tables.{AreLeaves, HasListed, HoldsInodes, HoldsNames, IsListing, places_of};
+ghost use Rattle.qx_tables.specs.Tables.{AreLeaves, HasListed, HoldsInodes, HoldsNames, IsListing, places_of, taken_in};
 
 use crate::{Directory, Ground, RecordPlace, Seen};
 use qx_fields::Order;
@@ -39,6 +39,7 @@ pub fn walk_records<D: Dev>(
     seen: &mut Seen,
 ) -> Result<bool, Halt>
     requires placed { All (IsPlaced ground.now.shape directory.now.node) leaves.now }
+    requires there { (0 < directory.now.inode) × (directory.now.inode ≤ places_of ground.now.table) }
     requires reading { IsReading ground.now seen.old (D.outside host.old) }
     ensures walked { (m : BlockMap) (r : Roots) (queue : List (ℕ × ℕ)) (listed numbers : List ℕ)
         → Shows ground.now.shape (D.outside host.new) m
@@ -67,6 +68,7 @@ fn walk_leaf<D: Dev>(
     seen: &mut Seen,
 ) -> Result<bool, Halt>
     requires placed { IsPlaced ground.now.shape directory.now.node leaf }
+    requires there { (0 < directory.now.inode) × (directory.now.inode ≤ places_of ground.now.table) }
     requires reading { IsReading ground.now seen.old (D.outside host.old) }
     ensures walked { (m : BlockMap) (r : Roots) (kept : Kept) → Shows ground.now.shape (D.outside host.new) m
         → HoldsInodes m r.inodes ground.now.table → Holds m r.longfile kept seen.old → leaf_of m directory.now.node leaf.index ≡ Block leaf.block
@@ -129,6 +131,7 @@ fn walk_record<D: Dev>(
     seen: &mut Seen,
 ) -> Result<(), Halt>
     requires named { NamesSome (raw_of_slot slot) }
+    requires there { (0 < at.inode) × (at.inode ≤ places_of ground.now.table) }
     requires reading { IsReading ground.now seen.old (D.outside host.old) }
     ensures walked { (m : BlockMap) (r : Roots) (kept : Kept) → Shows ground.now.shape (D.outside host.new) m
         → HoldsInodes m r.inodes ground.now.table → Holds m r.longfile kept seen.old
@@ -156,6 +159,7 @@ fn walk_long<D: Dev>(
     seen: &mut Seen,
 ) -> Result<(), Halt>
     requires named { 0 < inode }
+    requires there { (0 < at.inode) × (at.inode ≤ places_of ground.now.table) }
     requires reading { IsReading ground.now seen.old (D.outside host.old) }
     ensures walked { (m : BlockMap) (r : Roots) (kept : Kept) → Shows ground.now.shape (D.outside host.new) m
         → HoldsInodes m r.inodes ground.now.table → Holds m r.longfile kept seen.old
@@ -186,14 +190,18 @@ fn walk_row(
     seen: &mut Seen,
 ) -> Result<(), Halt>
     requires named { 0 < inode }
+    requires there { (0 < at.inode) × (at.inode ≤ places_of ground.now.table) }
     requires listing { IsListing (places_of ground.now.table) seen.old.listing }
+    requires listed { ListsInodes ground.now seen.old.listing }
     ensures walked { (m : BlockMap) (r : Roots) (kept : Kept) → HoldsInodes m r.inodes ground.now.table
         → Holds m r.longfile kept seen.old
         → WalksRow m r (record_place at) inode name.now kept result seen.new }
 
     ensures longs { seen.new.longs ≡ seen.old.longs }
     ensures listing { IsListing (places_of ground.now.table) seen.new.listing }
+    ensures listed { ListsInodes ground.now seen.new.listing }
     ensures next { seen.new.listing.next ≡ seen.old.listing.next }
+    ensures taken { taken_in seen.new.listing ≡ taken_in seen.old.listing }
     ensures no_fault { result ≢ Err halts.Device }
 {
     if !is_plain(name) {

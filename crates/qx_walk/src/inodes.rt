@@ -1,14 +1,16 @@
 //! The inodes of a tree, walked in the order in which they are listed.
-ghost use Rattle.std.specs.Prelude.{◌≡◌, ◌<◌, ◌≤◌, ◌==◌, ◌&&◌, not, nat_lt, Some, is_some, true};
+ghost use Rattle.std.specs.Prelude.{◌≡◌, ◌<◌, ◌≤◌, ◌==◌, ◌&&◌, not, nat_lt, OnOk, Some, is_some, true};
 ghost use Rattle.qx_nodes.specs.BlockMap.{BlockMap};
 ghost use Rattle.qx_records.specs.declared.kind.Kind.TheVariants as kinds;
 ghost use Rattle.qx_records.specs.InodeRecord.{kind_of};
 ghost use Rattle.qx_view.specs.Images.{Roots};
 ghost use Rattle.qx_view.specs.Walk.{inode_mode, inode_root};
 ghost use Rattle.qx_walk.specs.Inodes.{Begins, Done, Remembers, WalksAll, WalksInode};
-ghost use Rattle.qx_walk.specs.Steps.{Carries, IsUnderway};
+ghost use Rattle.qx_walk.specs.Steps.{AreWalked, Carries, IsUnderway};
+ghost use Rattle.qx_pointers.specs.Parts.{IsInReach};
+ghost use Rattle.qx_walk.specs.Trees.{IsWalkedInode};
 ghost use Rattle.qx_pointers.specs.Shown.{Shows};
-ghost use Rattle.qx_tables.specs.Tables.{HoldsInodes, places_of};
+ghost use Rattle.qx_tables.specs.Tables.{HoldsInodes, inode_at, places_of, taken_in};
 
 use crate::own_nodes::{is_foreign_directory, noted, walk_own_node};
 use crate::{Directory, Ground, Seen, Way, walk_records};
@@ -27,10 +29,12 @@ pub(crate) fn walk_inodes<D: Dev>(
     seen: &mut Seen,
 ) -> Result<(), Halt>
     requires underway { IsUnderway ground.now way.old seen.old (D.outside host.old) }
+    requires first { seen.old.listing.next ≡ 0 }
     ensures walked { (m : BlockMap) (r : Roots) → Shows ground.now.shape (D.outside host.new) m → HoldsInodes m r.inodes ground.now.table
         → Begins m r way.old seen.old → WalksAll m r result way.new seen.new }
 
     // Whether the device tells or not.
+    ensures reached { OnOk result (AreWalked ground.now seen.new.listing.queue.items) }
     ensures carries { Carries ground.now 0 way.old way.new seen.old seen.new
         (D.outside host.old) (D.outside host.new) result }
 {
@@ -55,6 +59,8 @@ fn walk_inode<D: Dev>(
         → WalksInode m r queued.inode queued.parent done result way.new seen.new }
 
     ensures next { seen.new.listing.next ≡ seen.old.listing.next }
+    ensures taken { taken_in seen.new.listing ≡ taken_in seen.old.listing }
+    ensures node { OnOk result (IsWalkedInode ground.now.shape (inode_at ground.now.table queued.inode)) }
     ensures carries { Carries ground.now 1 way.old way.new seen.old seen.new
         (D.outside host.old) (D.outside host.new) result }
 {
@@ -113,6 +119,8 @@ fn walk_directory<D: Dev>(
         → WalksInode m r directory.now.inode directory.now.parent done result way.new seen.new }
 
     ensures next { seen.new.listing.next ≡ seen.old.listing.next }
+    ensures taken { taken_in seen.new.listing ≡ taken_in seen.old.listing }
+    ensures node { OnOk result (IsInReach ground.now.shape directory.now.node) }
     ensures carries { Carries ground.now 1 way.old way.new seen.old seen.new
         (D.outside host.old) (D.outside host.new) result }
 {

@@ -13,7 +13,7 @@ ghost use Rattle.qx_pointers.specs.Halts.{Asks};
 ghost use Rattle.qx_walk.specs.Layouts.{HasNumbers, IsShapeOf, has_right_counts, later_reason};
 ghost use Rattle.qx_pointers.specs.Shown.{Fits, Shows};
 ghost use Rattle.qx_tables.specs.Tables.{HoldsInodes, places_of};
-ghost use Rattle.qx_walk.specs.Trees.{HasBounds, IsWalked};
+ghost use Rattle.qx_walk.specs.Trees.{HasLimits, IsWalked};
 
 use crate::Walked;
 use crate::bitmap::first_wrong_bit;
@@ -73,7 +73,7 @@ pub fn first_reason<D: Dev>(
 ) -> Result<Option<Foreign>, Halt>
     requires shape { IsShapeOf view.now shape }
     requires geometry { IfSome geometry (HasNumbers view.now) }
-    requires bounds { HasBounds shape.count walked.now }
+    requires bounds { HasLimits shape.count walked.now }
     requires fits { Fits shape (D.outside host.old) }
     ensures reason { (m : BlockMap) (len : ℕ) → Shows shape (D.outside host.new) m
         → written_geometry view.now len ≡ geometry → IsWalked m (main_roots view.now) walked.now
@@ -178,7 +178,7 @@ fn is_written_inode(table: &InodeTable, n: u32) -> bool
 /// The last finding, where no reason applies: a byte past the size of the Inode tree or of a reached inode, or counts that are wrong.
 pub fn last_finding(view: &SuperView<'_>, geometry: &Geometry, walked: &Walked) -> Option<Finding>
     requires geometry { IsGeometry geometry.now }
-    requires bounds { HasBounds geometry.now.num_blocks walked.now }
+    requires bounds { HasLimits geometry.now.num_blocks walked.now }
     ensures { (m : BlockMap) (len : ℕ) (which : Area) → m.size ≡ geometry.now.blocksize
         → m.count ≡ geometry.now.num_blocks → written_geometry view.now len ≡ Some geometry.now
         → IsWalked m (main_roots view.now) walked.now
@@ -222,7 +222,7 @@ pub fn last_of(
     walked: &Walked,
 ) -> Option<Finding>
     requires geometry { IfSome geometry (HasNumbers view.now) }
-    requires bounds { HasBounds view.now.num_blocks walked.now }
+    requires bounds { HasLimits view.now.num_blocks walked.now }
     ensures last { (m : BlockMap) (len : ℕ) (which : Area) → m.size ≡ view.now.blocksize
         → m.count ≡ view.now.num_blocks → written_geometry view.now len ≡ geometry
         → IsWalked m (main_roots view.now) walked.now

@@ -10,7 +10,7 @@ ghost use Rattle.qx_pointers.specs.declared.halt.Halt.TheVariants as halts;
 ghost use Rattle.qx_pointers.specs.Halts.{Asks};
 ghost use Rattle.qx_walk.specs.Inodes.{WalksNode, tail_at};
 ghost use Rattle.qx_pointers.specs.Marks.{Marks};
-ghost use Rattle.qx_pointers.specs.Parts.{IsPlaced, IsWhole};
+ghost use Rattle.qx_pointers.specs.Parts.{IsInReach, IsPlaced, IsWhole};
 ghost use Rattle.qx_pointers.specs.Shown.{Fits, Looks, Shows};
 ghost use Rattle.qx_walk.specs.Trees.{note_if};
 
@@ -38,6 +38,7 @@ pub(crate) fn walk_own_node<D: Dev>(
         → WalksNode m n node.now keeps met result way.old way.new }
 
     // Whether the device tells or not.
+    ensures node { OnOk result (IsInReach shape node.now) }
     ensures placed { OnOk result (All (IsPlaced shape node.now) way.new.leaves.items) }
     ensures dots { way.new.notes.dots ≡ way.old.notes.dots }
     ensures limit { limit_of way.new.met ≡ limit_of way.old.met }

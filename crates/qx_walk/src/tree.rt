@@ -1,14 +1,16 @@
 //! The tree of a volume, walked from its root nodes.
-ghost use Rattle.std.specs.Prelude.{◌≢◌, ◌<◌, ◌*◌, ◌/◌, Err, IfOk, OnOk};
+ghost use Rattle.std.specs.Prelude.{◌≡◌, ◌≢◌, ◌<◌, ◌*◌, ◌/◌, Err, IfOk, OnOk, Some};
 ghost use Rattle.qx_blockset.specs.Members.{Members};
 ghost use Rattle.qx_nodes.specs.BlockMap.{BlockMap};
+ghost use Rattle.qx_records.specs.declared.kind.Kind.TheVariants as kinds;
+ghost use Rattle.qx_records.specs.InodeRecord.{kind_of};
 ghost use Rattle.qx_view.specs.Images.{Roots};
 ghost use Rattle.qx_view.specs.Walk.{finding_of, top_tests};
 ghost use Rattle.qx_pointers.specs.declared.halt.Halt.TheVariants as halts;
 ghost use Rattle.qx_pointers.specs.Halts.{Answers};
 ghost use Rattle.qx_pointers.specs.Marks.{GoesThrough};
 ghost use Rattle.qx_pointers.specs.Shown.{Fits, Looks, Shows};
-ghost use Rattle.qx_tables.specs.Tables.{HoldsInodes, places_of};
+ghost use Rattle.qx_tables.specs.Tables.{HoldsInodes, inode_at, places_of};
 ghost use Rattle.qx_walk.specs.Trees.{HasBounds, IsWalked, roots_of};
 
 use crate::inodes::walk_inodes;
@@ -35,7 +37,7 @@ pub fn walk_tree<D: Dev>(
     ensures walked { (m : BlockMap) → Shows shape (D.outside host.new) m → IfOk result (IsWalked m (roots_of roots.now)) }
 
     // Whether the device tells or not.
-    ensures bounds { IfOk result (HasBounds shape.count) }
+    ensures bounds { IfOk result (HasBounds shape roots.now) }
     ensures looks { Looks halts.Device 0 (shape.count * (shape.blocksize / 8)) (D.outside host.old) (D.outside host.new) result }
 {
     let mut met = BlockSet::new(alloc, shape.count)?;
@@ -93,6 +95,7 @@ pub fn walk_tree<D: Dev>(
 fn test_top(table: &InodeTable) -> Result<(), Halt>
     ensures tests { (m : BlockMap) (r : Roots) (met : Members) → HoldsInodes m r.inodes table.now → GoesThrough (top_tests m r) result met met }
     ensures some { OnOk result (0 < places_of table.now) }
+    ensures directory { OnOk result (kind_of (inode_at table.now 1).mode ≡ Some kinds.Directory) }
     ensures no_fault { result ≢ Err halts.Device }
 {
     if table.places() == 0 {

@@ -55,7 +55,7 @@ returns-in-None-clause-says g c = λ img told bytes active names.
     let written : written_geometry s c.args.len ≡ c.geometry_of-geometry.result = sym c.geometry_of-geometry.ensures.geometry in
     let reason : c.in-Ok-first_reason.foreign ≡ reason_with m s c.args.which c.geometry_of-geometry.result = c.in-Ok-first_reason.ensures.reason m c.args.len (shown_blocks _ s img (g.D.Dev.outside c.args.host.now) (g.D.Dev.outside c.first_reason.new.host) (record { order = c.order.ensures; blocksize = c.blocksize.ensures; count = c.num_blocks.ensures }) reads told bytes) written is in
     subst (IsSurvey img) (sym c.survey_of.ensures)
-    (surveyed img c.args.which s active names c.in-Ok.walked is c.geometry_of-geometry.result (ap (written_geometry s) (sym long) ∙ written) c.in-Ok-first_reason.foreign (c.in-Ok.ensures.bounds.blocks ∙ c.num_blocks.ensures) reason
+    (surveyed img c.args.which s active names c.in-Ok.walked is c.geometry_of-geometry.result (ap (written_geometry s) (sym long) ∙ written) c.in-Ok-first_reason.foreign (c.in-Ok.ensures.bounds.limits.blocks ∙ c.num_blocks.ensures) reason
     (λ none. sym (c.last_of-last.ensures.last m c.args.len c.args.which refl refl written is (sym reason ∙ none) none) ∙ c.in-None.is))
 
 pub returns-in-Err-clause-looks : goal.returns-in-Err-clause-looks
@@ -74,7 +74,7 @@ returns-in-Some-clause-looks g c =
 pub returns-in-None-clause-bounds : goal.returns-in-None-clause-bounds
 returns-in-None-clause-bounds g c = subst (HasSurveyBounds c.args.len) (sym c.survey_of.ensures) (record {
   size = c.requires.sized;
-  limit = c.in-Ok.ensures.bounds.blocks ∙ c.num_blocks.ensures;
+  limit = c.in-Ok.ensures.bounds.limits.blocks ∙ c.num_blocks.ensures;
   room = c.requires.room;
   numbers = λ none. written_numbers c.args.view.now c.args.len c.geometry_of-geometry.result c.geometry_of-geometry.ensures.geometry (c.in-Ok-first_reason.ensures.numbers none);
 })

@@ -1,9 +1,10 @@
-use Rattle.std.proofs.Common.{◌-◌, [], length, refl, ◌∙◌, ap, subst, arith}
+use Rattle.std.proofs.Common.{◌-◌, [], length, refl, sym, ◌∙◌, ap, subst, arith}
 use Rattle.std.proofs.lemmas.Result.{err_from_is_err_and}
-use Rattle.qx_blockset.specs.Members.{Members, has}
+use Rattle.qx_blockset.specs.Members.{Members, has, limit_of}
 use Rattle.qx_pointers.proofs.ShownBlocks.{fits_still, shown_size, shows_before}
 use Rattle.qx_pointers.specs.declared.halt.Halt.TheVariants as halts
 use Rattle.qx_tables.specs.Tables.{IsListing}
+use Rattle.qx_walk.proofs.ListedInodes.{lists_first, reached_of}
 use Rattle.qx_walk.proofs.StepsInOrder.{looks_err, looks_ok}
 use Rattle.qx_walk.proofs.TreeReads.{first_leaves, first_limit, no_memory, read_first, read_halts, read_inodes, read_leaves, read_next, read_other, tree_reads}
 use Rattle.qx_walk.proofs.TestsAbove.{all_above, all_roots, begins_at, halts_above, halts_in_further, halts_in_inodes, halts_in_longfile, none_met, noted_above, root_leaves, two_roots}
@@ -233,6 +234,26 @@ walk_inodes-requires g c =
         met = c.walk_node-3.ensures.follows.limit ∙ c.walk_node-2.ensures.follows.limit ∙ limit;
         inside = c.in_ok-longs.ensures.inside;
         listing = subst (λ n. IsListing n c.in_ok-listing.listing) c.places.ensures c.in_ok-listing.ensures.listing;
+        listed = lists_first (record { shape = shape; table = c.in_ok-table.table }) c.in_ok-listing.listing c.in_ok-listing.ensures.queue c.in_ok-test_top.ensures.directory c.in_ok-test_top.ensures.some;
         fits = fits_still shape (g.D.Dev.outside c.walk_node-2.new.host) (g.D.Dev.outside c.walk_node-3.new.host) c.walk_node-3.ensures.follows.looks.reads (fits_still c.args.shape (g.D.Dev.outside c.read.new.host) (g.D.Dev.outside c.walk_node-2.new.host) c.walk_node-2.ensures.follows.looks.reads (fits_still c.args.shape (g.D.Dev.outside c.walk_node.new.host) (g.D.Dev.outside c.read.new.host) c.read.ensures.looks.reads (fits_still c.args.shape (g.D.Dev.outside c.args.host.now) (g.D.Dev.outside c.walk_node.new.host) c.walk_node.ensures.follows.looks.reads c.requires.fits)));
       };
+      first = c.in_ok-listing.ensures.next;
+    }
+
+pub returns-clause-bounds : goal.returns-clause-bounds
+returns-clause-bounds g c =
+    let shape = c.args.shape in
+    let carries = c.walk_inodes.ensures.carries in
+    let reached = c.into_listed.ensures in
+    record {
+      limits = record { blocks = carries.met; inodes = ap limit_of reached ∙ carries.listing.limit };
+      places = c.in_ok-table.ensures.places;
+      covered = c.in_ok-table.ensures.covers;
+      inside = c.in_ok-walk_node.ensures.bounded refl;
+      some = c.in_ok-test_top.ensures.some;
+      top = ap (λ (set : Members). has set 0) reached ∙ carries.listing.members 1 (omega arith) c.in_ok-test_top.ensures.some ∙ carries.listed.top;
+      directory = c.in_ok-test_top.ensures.directory;
+      nodes = λ n pos there is. reached_of (record { shape = shape; table = c.in_ok-table.table }) _ c.walk_inodes.new.seen.listing n carries.listing carries.listed c.in_ok-walk_inodes.ensures.reached pos there (sym (ap (λ (set : Members). has set (n - 1)) reached) ∙ is);
+      longfile = c.in_ok-longfile.ensures.reach;
+      names = c.in_ok-longfile.ensures.bounded refl;
     }
