@@ -13,18 +13,21 @@ fn numbers(volume: (u64, u32, u32)) -> Option<Geometry>
     Geometry::new(volume.0, volume.1, volume.2).ok()
 }
 
-/// A byte of the first leaf of the bitmap, where one block is held beside both halves.
+/// A byte of the bitmap, where one block is held beside both halves.
 fn byte(volume: (u64, u32, u32), number: u32, place: u32) -> Option<u8> {
     let geometry = numbers(volume)?;
     let held = OneBlock { number };
     let byte = bitmap_byte(&geometry, &held, u64::from(place));
     let mut buffer = [0; 4096];
-    let leaf = buffer.get_mut(..geometry.blocksize as usize)?;
-    if geometry.bitmap_leaves == 0 {
+    let size = geometry.blocksize;
+    let bytes = buffer.get_mut(..size as usize)?;
+    let leaf = place.checked_div(size)?;
+    if geometry.bitmap_leaves <= leaf {
         return None;
     }
-    fill_bitmap_leaf(&geometry, &held, 0, leaf);
-    leaf.get(place as usize)
+    fill_bitmap_leaf(&geometry, &held, leaf, bytes);
+    bytes
+        .get((place - leaf * size) as usize)
         .copied()
         .filter(|filled| *filled == byte)
 }
@@ -33,6 +36,8 @@ fn byte(volume: (u64, u32, u32), number: u32, place: u32) -> Option<u8> {
 fn the_bytes_of_a_bitmap(rt: HostRuntime) {
     let small = (65536, 512, 16);
     let odd = (0x4000 + 45 * 4096, 4096, 16);
+    // 131,040 blocks, of which the halves take 8,324: they end in the third of 32 leaves.
+    let large = (67_108_864, 512, 16384);
     // The volume, the held block, the byte's place, and what it is.
     let cases = [
         ("a byte of the halves", &small, 10, 0, 0xFF),
@@ -64,6 +69,30 @@ fn the_bytes_of_a_bitmap(rt: HostRuntime) {
             5,
             0xF0,
         ),
+        ("a leaf of the halves", &large, 20000, 1023, 0xFF),
+        ("the end of the halves in a leaf", &large, 20000, 1040, 0xF),
+        ("the held block, first of its leaf", &large, 12288, 1536, 1),
+        (
+            "the held block, last of its leaf",
+            &large,
+            16383,
+            2047,
+            0x80,
+        ),
+        ("before the held block", &large, 20000, 2499, 0),
+        ("the held block in a leaf", &large, 20000, 2500, 1),
+        ("behind the held block", &large, 20000, 2501, 0),
+        ("a leaf before the held block", &large, 20000, 2000, 0),
+        ("a leaf behind the held block", &large, 20000, 3000, 0),
+        ("a leaf where a half's block is held", &large, 10, 3000, 0),
+        (
+            "the last block in the last leaf",
+            &large,
+            131_039,
+            16379,
+            0x80,
+        ),
+        ("past it in the last leaf", &large, 131_039, 16380, 0xFF),
     ];
     for (name, volume, number, place, want) in cases {
         assert_eq!(rt; byte(*volume, number, place), Some(want), "{name}");

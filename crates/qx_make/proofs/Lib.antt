@@ -4,6 +4,7 @@ pub mod AreaPuts
 pub mod TopDirectory
 pub mod PiecesWritten
 pub mod MadeBlockLengths
+pub mod BlankLeaves
 pub mod BlockPuts
 pub mod StagesInOrder
 pub mod VolumeStages

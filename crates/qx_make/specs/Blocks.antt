@@ -1,5 +1,6 @@
 -- What the maker writes into the blocks of both halves, and into the root directory's block behind them.
-use Rattle.std.specs.Prelude.{ℕ, ◌≡◌, ◌+◌, ◌*◌, ◌-◌, ◌≤◌, Bool, List, [], ◌∷◌, ◌++◌, replicate, nat_lt, ◌==◌, if◌then◌else◌}
+use Rattle.std.specs.Prelude.{ℕ, ◌≡◌, ◌+◌, ◌*◌, ◌-◌, ◌≤◌, Bool, List, [], ◌∷◌, ◌++◌, flat_map, replicate, nat_lt, ◌==◌, if◌then◌else◌}
+use Rattle.std.specs.List.{range_with_len}
 use Rattle.qx_fields.specs.declared.order.Order.{Order}
 use Rattle.qx_geom.specs.declared.system.SystemTree.TheVariants as trees
 use Rattle.qx_geom.specs.declared.area.Which.{Which}
@@ -68,6 +69,10 @@ made_block_bytes g order moment b =
     if nat_lt b g.half then half_block_bytes g order moment First b
     else if nat_lt b (top_block g) then half_block_bytes g order moment Second (b - g.half)
     else top_directory_bytes order g.blocksize
+
+-- so many of them from one on, one after another
+abbrev pub blocks_bytes : Geometry → Order → ℕ → ℕ → ℕ → List ℕ
+blocks_bytes g order moment first count = flat_map (made_block_bytes g order moment) (range_with_len first count)
 
 -- blocks are those of a new volume: both halves and the root directory
 pub record AreMade (g : Geometry) (order : Order) (moment : ℕ) (m : BlockMap) : Type 0 where

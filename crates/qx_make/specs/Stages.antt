@@ -1,6 +1,5 @@
 -- The maker's way: what it puts between one good sync and the next, and over which bytes.
-use Rattle.std.specs.Prelude.{ℕ, ◌≡◌, IsTrue, Bool, Result, OnOk, ◌+◌, ◌-◌, List, [], ◌∷◌, ◌++◌, ◌⊎◌, flat_map, length, min, replicate, Option, Some, None, Contains}
-use Rattle.std.specs.List.{range_with_len}
+use Rattle.std.specs.Prelude.{ℕ, ◌≡◌, IsTrue, Bool, Result, OnOk, ◌+◌, ◌-◌, List, [], ◌∷◌, ◌++◌, ◌⊎◌, length, min, replicate, Option, Some, None, Contains}
 use Rattle.qx_outside.specs.Calls.{LeavesRest}
 use Rattle.qx_outside.specs.Causes.{HasCause}
 use Rattle.qx_outside.specs.Moments.{Moves, Reaches}
@@ -15,7 +14,7 @@ use Rattle.qx_super.specs.declared.choice.Choice.{Choice}
 use Rattle.qx_super.specs.declared.choice.Choice.TheVariants as choices
 use Rattle.qx_super.specs.Superblock.{second_place_of}
 use Rattle.qx_super.specs.Active.{choice_in}
-use Rattle.qx_make.specs.Blocks.{made_block_bytes, top_block}
+use Rattle.qx_make.specs.Blocks.{blocks_bytes, top_block}
 use Rattle.qx_make.specs.Superblocks.{made_super_bytes}
 
 -- what is put between two good syncs, over what the first of them kept
@@ -118,7 +117,7 @@ zeroed bytes (place ∷ places) = zeroed (after_stage (zero_stage bytes place)) 
 
 -- all blocks that are written, one after another
 unfoldable pub all_block_bytes : Geometry → Order → ℕ → List ℕ
-all_block_bytes g order moment = flat_map (made_block_bytes g order moment) (range_with_len 0 (top_block g + 1))
+all_block_bytes g order moment = blocks_bytes g order moment 0 (top_block g + 1)
 
 -- these bytes are put into both areas
 abbrev pub areas_stage : Geometry → List ℕ → List ℕ → List ℕ → Stage

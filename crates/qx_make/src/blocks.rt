@@ -1,8 +1,8 @@
 //! The blocks of a new volume, one after another.
-ghost use Rattle.std.specs.Prelude.{◌≡◌, ◌+◌, ◌*◌, ◌^◌, ◌≤◌, ◌<◌, flat_map, length};
-ghost use Rattle.std.specs.List.{range_with_len};
+ghost use Rattle.std.specs.Prelude.{◌≡◌, ◌+◌, ◌-◌, ◌*◌, ◌^◌, ◌≤◌, ◌<◌, if◌then◌else◌, length, nat_lt, replicate};
+ghost use Rattle.std.specs.Bool.{OnTrue};
 ghost use Rattle.qx_geom.specs.Layout.{IsGeometry};
-ghost use Rattle.qx_make.specs.Blocks.{half_block_bytes, inode_leaf_bytes, made_block_bytes, top_block, top_directory_bytes, top_inode};
+ghost use Rattle.qx_make.specs.Blocks.{blocks_bytes, half_block_bytes, inode_leaf_bytes, made_block_bytes, top_block, top_directory_bytes, top_inode};
 
 use qx_fields::Order;
 use qx_geom::{ABSENT, Geometry, Root, SystemTree, Which};
@@ -131,13 +131,36 @@ fn fill_block(volume: &NewVolume, block: u32, into: &mut [u8])
     }
 }
 
+/// A block's index in the half where it lies.
+fn index_in_half(geometry: &Geometry, block: u32) -> u32
+    ensures { result ≡ (if nat_lt block geometry.now.half then block else block - geometry.now.half) }
+{
+    if block < geometry.half {
+        block
+    } else {
+        block - geometry.half
+    }
+}
+
+/// Whether so many of them from one on are all leaves of the Inode tree without an inode, which are 0.
+pub fn are_blank(volume: &NewVolume, first: u32, count: u32) -> bool
+    requires geometry { IsGeometry volume.now.geometry }
+    requires blocks { first + count ≤ top_block volume.now.geometry + 1 }
+    ensures { OnTrue result (blocks_bytes volume.now.geometry volume.now.order volume.now.moment first count
+        ≡ replicate (count * volume.now.geometry.blocksize) 0) }
+{
+    let geometry = &volume.geometry;
+    let index = index_in_half(geometry, first);
+    let leaf = geometry.bitmap_leaves + geometry.bitmap_pointers;
+    leaf < index && index + count <= leaf + geometry.inode_leaves
+}
+
 /// Fills so many of them from one on.
 pub fn fill_blocks(volume: &NewVolume, first: u32, count: u32, into: &mut [u8])
     requires geometry { IsGeometry volume.now.geometry }
     requires blocks { first + count ≤ top_block volume.now.geometry + 1 }
     requires into { length into.old ≡ count * volume.now.geometry.blocksize }
-    ensures { into.new
-        ≡ flat_map (made_block_bytes volume.now.geometry volume.now.order volume.now.moment) (range_with_len first count) }
+    ensures { into.new ≡ blocks_bytes volume.now.geometry volume.now.order volume.now.moment first count }
 {
     let size = volume.geometry.blocksize as usize;
     for index in 0..count {

@@ -1,4 +1,5 @@
 pub mod TakenBits
+pub mod BitmapLeaves
 pub mod OneBit
 pub mod PartsInOrder
 pub mod WholeBlocks

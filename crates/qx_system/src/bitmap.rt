@@ -67,8 +67,8 @@ pub fn bitmap_byte<H: Held>(geometry: &Geometry, held: &H, place: u64) -> u8
     byte_at_once(geometry, held, place)
 }
 
-/// Fills a leaf of a half's bitmap.
-pub fn fill_bitmap_leaf<H: Held>(geometry: &Geometry, held: &H, leaf: u32, into: &mut [u8])
+/// Fills a leaf of a half's bitmap, byte by byte.
+fn fill_by_bytes<H: Held>(geometry: &Geometry, held: &H, leaf: u32, into: &mut [u8])
     requires geometry { IsGeometry geometry.now }
     requires held { geometry.now.num_blocks ≤ H.limit held.now }
     requires leaf { leaf < geometry.now.bitmap_leaves }
@@ -78,5 +78,28 @@ pub fn fill_bitmap_leaf<H: Held>(geometry: &Geometry, held: &H, leaf: u32, into:
     let first = u64::from(leaf) * u64::from(geometry.blocksize);
     for (index, byte) in into.iter_mut().enumerate() {
         *byte = bitmap_byte(geometry, held, first + index as u64);
+    }
+}
+
+/// Fills a leaf of a half's bitmap.
+pub fn fill_bitmap_leaf<H: Held>(geometry: &Geometry, held: &H, leaf: u32, into: &mut [u8])
+    requires geometry { IsGeometry geometry.now }
+    requires held { geometry.now.num_blocks ≤ H.limit held.now }
+    requires leaf { leaf < geometry.now.bitmap_leaves }
+    requires into { length into.old ≡ geometry.now.blocksize }
+    ensures { into.new ≡ bitmap_leaf_bytes geometry.now (H.held held.now) leaf }
+{
+    let halves = 2 * u64::from(geometry.half);
+    let count = u64::from(geometry.num_blocks);
+    let place = u64::from(leaf) * u64::from(geometry.blocksize);
+    let first = place * 8;
+    let end = first + u64::from(geometry.blocksize) * 8;
+    if end <= halves {
+        into.fill(0xFF);
+    } else if halves <= first && end <= count {
+        held.fill(place as u32, into);
+    } else {
+        // An end of the user's blocks lies in it.
+        fill_by_bytes(geometry, held, leaf, into);
     }
 }

@@ -1,9 +1,9 @@
-use Rattle.std.proofs.Common.{rules, ◌≡◌, ℕ, ◌*◌, ◌/◌, ◌≤◌, ◌<◌, length, refl, ap, ◌∙◌, arith, length-append, length-drop}
+use Rattle.std.proofs.Common.{rules, ℕ, ◌*◌, ◌/◌, ◌≤◌, ◌<◌, refl, ◌∙◌, arith, length-append, length-drop, length-take}
 use Rattle.std.proofs.Math.Nat.{div-mul-le_self, le-div_iff_mul-le, mul-le-mul_right}
 use Rattle.qx_geom.proofs.BlockSizes.{block_size-bounds}
 use Rattle.qx_geom.proofs.VolumeNumbers.{IsGeometry-keeps}
-use Rattle.qx_outside.proofs.ToldLengths.{told_after, told_stays}
-use Rattle.qx_make.proofs.BlockPuts.{length-made, no_piece, one_piece, piece_fails, piece_told, pieces_done}
+use Rattle.qx_outside.proofs.ToldLengths.{told_stays}
+use Rattle.qx_make.proofs.BlockPuts.{no_piece, one_piece, piece_fails, pieces_done}
 use Rattle.qx_make.proofs.halves.write_pieces.Goals as goal
 
 pub overflow_mul-blocks : goal.overflow_mul-blocks
@@ -24,18 +24,13 @@ loop-first-init g c = record {
 pub nonzero_div-size : goal.nonzero_div-size
 nonzero_div-size g c = let v = IsGeometry-keeps c.args.volume.now.geometry c.requires.geometry in let bounds = block_size-bounds c.args.volume.now.geometry.blocksize v.block_size in omega (arith, bounds.size_from)
 
-pub place-requires-clause-block : goal.place-requires-clause-block
-place-requires-clause-block g c = let v = IsGeometry-keeps c.args.volume.now.geometry c.requires.geometry in omega (arith, v.room, c.loop-first-test.true)
+pub write_piece-requires-clause-blocks : goal.write_piece-requires-clause-blocks
+write_piece-requires-clause-blocks g c = omega (arith, c.min-count.ensures, c.loop-first-test.true)
 
-pub write_at-requires : goal.write_at-requires
-write_at-requires g c =
-    rw c.place.ensures (piece_told c.args.volume.now.geometry c.requires.geometry c.args.volume.now.order c.args.volume.now.moment c.loop-first.first c.min-count.result c.fill_blocks.new.into (g.D.Dev.outside c.args.host.now).extent (g.D.Dev.outside c.loop-first.host).extent c.fill_blocks.ensures
-    (omega (arith, c.min-count.ensures, c.loop-first-test.true)) (told_after (g.D.Dev.outside c.args.host.now).extent (g.D.Dev.outside c.loop-first.host).extent (λ n. c.args.volume.now.geometry.len4 ≤ n) c.loop-first.invariant.others.extent_same) c.requires.len)
-
-pub returns-in_err-write_at-clause-stage : goal.returns-in_err-write_at-clause-stage
-returns-in_err-write_at-clause-stage g c = λ bytes long.
-    piece_fails c.args.volume.now.geometry c.requires.geometry c.args.volume.now.order c.args.volume.now.moment bytes long c.from_residual.result c.loop-first.first c.min-count.result c.fill_blocks.new.into (g.D.Dev.outside c.args.host.now) (g.D.Dev.outside c.loop-first.host) (g.D.Dev.outside c.write_at.new.self) c.from_residual.ensures.0 c.fill_blocks.ensures
-    (omega (arith, c.min-count.ensures, c.loop-first-test.true)) (rw c.place.ensures at c.write_at.ensures.step) (c.loop-first.invariant.begun bytes long)
+pub returns-in_err-write_piece-clause-stage : goal.returns-in_err-write_piece-clause-stage
+returns-in_err-write_piece-clause-stage g c = λ bytes long.
+    piece_fails c.args.volume.now.geometry c.requires.geometry c.args.volume.now.order c.args.volume.now.moment bytes long c.from_residual.result c.loop-first.first c.min-count.result (g.D.Dev.outside c.args.host.now) (g.D.Dev.outside c.loop-first.host) (g.D.Dev.outside c.write_piece.new.host) c.from_residual.ensures.0
+    (omega (arith, c.min-count.ensures, c.loop-first-test.true)) c.write_piece.ensures.step (c.loop-first.invariant.begun bytes long)
 
 pub overflow_add-first : goal.overflow_add-first
 overflow_add-first g c = let v = IsGeometry-keeps c.args.volume.now.geometry c.requires.geometry in record { fits = omega (arith, v.room, v.blocks_to, c.min-count.ensures, c.loop-first-test.true) }
@@ -49,20 +44,19 @@ loop-first-smaller g c =
 
 pub loop-first-preserved : goal.loop-first-preserved
 loop-first-preserved g c = record {
-  begun = λ bytes long. one_piece c.args.volume.now.geometry c.requires.geometry c.args.volume.now.order c.args.volume.now.moment bytes long c.loop-first.first c.min-count.result c.fill_blocks.new.into (g.D.Dev.outside c.args.host.now) (g.D.Dev.outside c.loop-first.host) (g.D.Dev.outside c.write_at.new.self) c.fill_blocks.ensures
-      (omega (arith, c.min-count.ensures, c.loop-first-test.true)) (rw c.place.ensures at c.in_ok-write_at.ensures.ok) (rw c.place.ensures at c.write_at.ensures.step) (c.loop-first.invariant.begun bytes long);
+  begun = λ bytes long. one_piece c.args.volume.now.geometry c.requires.geometry c.args.volume.now.order c.args.volume.now.moment bytes long c.loop-first.first c.min-count.result (g.D.Dev.outside c.args.host.now) (g.D.Dev.outside c.loop-first.host) (g.D.Dev.outside c.write_piece.new.host)
+      (omega (arith, c.min-count.ensures, c.loop-first-test.true)) c.in_ok-write_piece.ensures.ok c.write_piece.ensures.step (c.loop-first.invariant.begun bytes long);
   others = record {
-    extent_same = told_stays _ _ _ c.loop-first.invariant.others.extent_same c.write_at.ensures.others.extent_same;
-    paths = c.write_at.ensures.others.paths ∙ c.loop-first.invariant.others.paths;
-    reads = c.write_at.ensures.others.reads ∙ c.loop-first.invariant.others.reads;
-    console = c.write_at.ensures.others.console ∙ c.loop-first.invariant.others.console;
+    extent_same = told_stays _ _ _ c.loop-first.invariant.others.extent_same c.write_piece.ensures.others.extent_same;
+    paths = c.write_piece.ensures.others.paths ∙ c.loop-first.invariant.others.paths;
+    reads = c.write_piece.ensures.others.reads ∙ c.loop-first.invariant.others.reads;
+    console = c.write_piece.ensures.others.console ∙ c.loop-first.invariant.others.console;
   };
-  faults = search (rules, c.write_at.ensures.cause.kept, c.loop-first.invariant.faults);
+  faults = search (rules, c.write_piece.ensures.cause.kept, c.loop-first.invariant.faults);
   buffer =
       (let whole : 65536 / c.args.volume.now.geometry.blocksize * c.args.volume.now.geometry.blocksize ≤ 65536 = div-mul-le_self 65536 c.args.volume.now.geometry.blocksize in
       let few : c.min-count.result * c.args.volume.now.geometry.blocksize ≤ 65536 / c.args.volume.now.geometry.blocksize * c.args.volume.now.geometry.blocksize = mul-le-mul_right c.args.volume.now.geometry.blocksize (let least : c.min-count.result ≤ 65536 / c.args.volume.now.geometry.blocksize = omega (arith, c.min-count.ensures) in least) in
-      let piece : length c.fill_blocks.new.into ≡ c.min-count.result * c.args.volume.now.geometry.blocksize = ap length c.fill_blocks.ensures ∙ length-made c.args.volume.now.geometry c.requires.geometry c.args.volume.now.order c.args.volume.now.moment c.min-count.result c.loop-first.first in
-      omega (arith, length-append {A = ℕ}, length-drop (c.min-count.result * c.args.volume.now.geometry.blocksize) c.loop-first.buffer, c.loop-first.invariant.buffer, piece, whole, few));
+      omega (arith, length-append {A = ℕ}, length-drop (c.min-count.result * c.args.volume.now.geometry.blocksize) c.loop-first.buffer, c.loop-first.invariant.buffer, c.write_piece.auto.buffer, length-take (c.min-count.result * c.args.volume.now.geometry.blocksize) c.loop-first.buffer, whole, few));
   within = omega (arith, c.min-count.ensures, c.loop-first-test.true);
 }
 

@@ -1,23 +1,26 @@
-use Rattle.std.proofs.Common.{ℕ, ◌+◌, ◌*◌, ◌≤◌, ◌^◌, ap, arith}
-use Rattle.std.proofs.lemmas.List.FromFn.{fill_by_all}
-use Rattle.std.proofs.Math.Nat.{mul-le-mul_right}
-use Rattle.qx_geom.proofs.BlockSizes.{block_size-bounds}
-use Rattle.qx_geom.proofs.VolumeNumbers.{IsGeometry-keeps}
-use Rattle.qx_system.specs.SystemBytes.{bitmap_byte, bitmap_leaf_bytes}
+use Rattle.std.proofs.Common.{ℕ, ap, arith, replicate, ◌∙◌}
+use Rattle.qx_system.proofs.BitmapLeaves.{halves_leaf, leaf_low, own_leaf}
 use Rattle.qx_system.proofs.bitmap.fill_bitmap_leaf.Goals as goal
 
-pub bitmap_byte-requires-clause-place : goal.bitmap_byte-requires-clause-place
-bitmap_byte-requires-clause-place g c =
-    let v = IsGeometry-keeps c.args.geometry.now c.requires.geometry in
-    let bounds = block_size-bounds c.args.geometry.now.blocksize v.block_size in
-    let size = c.args.geometry.now.blocksize in
-    let leaves = c.args.geometry.now.bitmap_leaves in
-    let before : (c.args.leaf + 1) * size ≤ leaves * size = mul-le-mul_right size (let up : c.args.leaf + 1 ≤ leaves = omega (arith, c.requires.leaf) in up) in
-    let most : leaves * size ≤ 2 ^ 18 * size = mul-le-mul_right size v.bitmap_leaves_to in
-    omega (arith, c.from.ensures, c.from-2.ensures, c.loop-index-test.true, c.requires.into, before, most, bounds.size_to, ap (λ (x : ℕ). x * c.from-2.result) c.from.ensures, ap (λ (x : ℕ). c.args.leaf * x) c.from-2.ensures)
+pub overflow_mul-first : goal.overflow_mul-first
+overflow_mul-first g c = rw (c.from.ensures, c.from-2.ensures) (let low = leaf_low c.args.geometry.now c.requires.geometry c.args.leaf c.requires.leaf in record { fits = omega (arith, low) })
 
-pub returns : goal.returns
-unfolding bitmap_leaf_bytes
-returns g c =
-    let size = c.args.geometry.now.blocksize in
-    fill_by_all (λ (k : ℕ). bitmap_byte c.args.geometry.now (g.H.Held.held c.args.held.now) (c.args.leaf * size + k)) c.loop-index.into size 0 (omega arith) (λ k low. c.loop-index.invariant k (omega arith))
+pub overflow_add-end : goal.overflow_add-end
+overflow_add-end g c = rw (c.from.ensures, c.from-2.ensures, c.from-3.ensures) (let low = leaf_low c.args.geometry.now c.requires.geometry c.args.leaf c.requires.leaf in record { fits = omega (arith, low) })
+
+pub returns-then-end-halves : goal.returns-then-end-halves
+returns-then-end-halves g c =
+    let below = rw (c.from.ensures, c.from-2.ensures, c.from-3.ensures) at c.if-end-halves.true in
+    c.fill.ensures.after (λ y e. cc)
+    ∙ ap (λ (n : ℕ). replicate n 255) c.requires.into
+    ∙ halves_leaf c.args.geometry.now (g.H.Held.held c.args.held.now) c.args.leaf (omega (arith, below, c.from-halves.ensures))
+
+pub returns-then-end-count : goal.returns-then-end-count
+returns-then-end-count g c =
+    let from = rw (c.from.ensures, c.from-2.ensures) at c.if-halves-first.true in
+    let to = rw (c.from.ensures, c.from-2.ensures, c.from-3.ensures) at c.if-end-count.true in
+    own_leaf c.args.geometry.now (g.H.Held.held c.args.held.now) c.args.leaf c.fill-then-end-count.new.into
+    (omega (arith, c.fill-then-end-count.auto.into, c.requires.into))
+    (omega (arith, from, c.from-halves.ensures)) (omega (arith, to, c.from-count.ensures))
+    (λ k low. omega (arith, c.type_inv.into k))
+    (λ i k within low. rw (c.from.ensures, c.from-2.ensures) at c.fill-then-end-count.ensures i k (omega (arith, within, c.requires.into)) low)
