@@ -5,7 +5,7 @@ use Rattle.std.specs.Option.{option_flatten}
 use Rattle.std.proofs.lemmas.List.{length-replicate}
 use Rattle.qx_model.specs.EmptyTree.{empty_tree, new_directory}
 use Rattle.qx_model.specs.Tree.{Directory, Entry, Unused, IsDirectory, NamesAt, Reached, Row, Slot, Tree, entry_of, named_by, slots_of, slots_of_entry, top, down}
-use Rattle.qx_view.specs.Reading.{AreRows, IsRooted, is_plain}
+use Rattle.qx_model.specs.Rooted.{AreRows, IsRooted, is_plain}
 
 -- ---- lists of one element
 

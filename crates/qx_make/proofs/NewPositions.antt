@@ -15,7 +15,8 @@ use Rattle.qx_nodes.specs.Visits.{Visit, visits_of}
 use Rattle.qx_model.specs.EmptyTree.{empty_tree}
 use Rattle.qx_model.specs.Tree.{Tree}
 use Rattle.qx_view.specs.Images.{Roots, inode_of}
-use Rattle.qx_view.specs.Reading.{IsApart, IsUndamaged, OfFurther, OfInode, OfInodes, OfLongfile, Owner, StandsAt}
+use Rattle.qx_model.specs.Owners.{OfFurther, OfInode, OfInodes, OfLongfile, Owner}
+use Rattle.qx_view.specs.Reading.{IsApart, IsUndamaged, StandsAt}
 use Rattle.qx_make.specs.Blocks.{top_block}
 use Rattle.qx_make.specs.NewVolume.{empty_root, new_roots}
 use Rattle.qx_make.proofs.EmptyTrees.{only_entry}

@@ -1,3 +1,5 @@
 pub mod Tree
+pub mod Rooted
+pub mod Owners
 pub mod Examples
 pub mod EmptyTree

@@ -34,7 +34,8 @@ use Rattle.qx_view.proofs.ImageTrees.{HasSize-image_blocks}
 use Rattle.qx_view.proofs.OuterNodes.{inode_outer, longfile_outer, outer_has}
 use Rattle.qx_view.proofs.SystemTrees.{IsInTree, met_in_tree, met_of_level, tree_met}
 use Rattle.qx_view.specs.Images.{image_blocks, main_roots}
-use Rattle.qx_view.specs.Reading.{HasNode, IsHeld, IsTreeOf, OfFurther, OfInode, OfInodes, OfLongfile, Owner}
+use Rattle.qx_model.specs.Owners.{OfFurther, OfInode, OfInodes, OfLongfile, Owner}
+use Rattle.qx_view.specs.Reading.{HasNode, IsHeld, IsTreeOf}
 use Rattle.qx_view.specs.Sound.{IsSound, first_some, geometry_if, has_system_trees, is_laid_out, is_same_root, is_system_tree, is_written_by, outer_blocks, reason_at, reason_of, reason_with, reasons_in, written_geometry}
 use Rattle.qx_view.specs.Walk.{walked_inodes}
 

@@ -14,7 +14,8 @@ use Rattle.qx_view.proofs.OneTree.{tree_unique}
 use Rattle.qx_view.proofs.TestsAndTree.{met_differ, no_test_fails, placed_stands}
 use Rattle.qx_view.proofs.TreeFound.{tree_found}
 use Rattle.qx_view.specs.Images.{Roots}
-use Rattle.qx_view.specs.Reading.{IsHeld, IsTreeOf, Owner, StandsAt}
+use Rattle.qx_model.specs.Owners.{Owner}
+use Rattle.qx_view.specs.Reading.{IsHeld, IsTreeOf, StandsAt}
 use Rattle.qx_view.specs.Usage.{met_blocks}
 
 -- numbers that differ stand at one place each

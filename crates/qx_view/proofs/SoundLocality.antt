@@ -38,7 +38,8 @@ use Rattle.qx_view.proofs.ReasonsAlike.{bad_long_name_alike, bit_alike, fails_do
 use Rattle.qx_view.proofs.TreeLocality.{place_within, tree_local}
 use Rattle.qx_view.proofs.WalkAlike.{further_agrees, outer_alike, walked_alike}
 use Rattle.qx_view.specs.Images.{Roots, block_bytes, image_blocks, inode_of, inode_places, main_roots}
-use Rattle.qx_view.specs.Reading.{HasNode, IsEntry, IsHeld, IsTreeOf, OfFurther, OfInode, OfInodes, OfLongfile, Owner}
+use Rattle.qx_model.specs.Owners.{OfFurther, OfInode, OfInodes, OfLongfile, Owner}
+use Rattle.qx_view.specs.Reading.{HasNode, IsEntry, IsHeld, IsTreeOf}
 use Rattle.qx_view.specs.Sound.{IsSound, are_counts_right, bad_long_name, bit_differs, fails_dots, fails_inodes, fails_nodes, fails_tail, first_some, has_system_trees, is_laid_out, is_same_root, is_system_tree, last_finding, last_with, outer_blocks, reason_at, reason_of, reason_with, reasons_in, tail_finding, written_geometry}
 use Rattle.qx_view.specs.Walk.{walked_inodes}
 

@@ -23,7 +23,8 @@ use Rattle.qx_view.proofs.TestsFromTree.{AllTested, AllTested-append, AllTested-
 use Rattle.qx_view.proofs.TreeLocality.{not_special}
 use Rattle.qx_view.proofs.WalkEnds.{inodes}
 use Rattle.qx_view.specs.Images.{Roots, inode_places}
-use Rattle.qx_view.specs.Reading.{HasNode, IsBody, IsOfKind, IsTreeOf, OfFurther, OfInode, OfInodes, OfLongfile, Owner, StandsAt}
+use Rattle.qx_model.specs.Owners.{OfFurther, OfInode, OfInodes, OfLongfile, Owner}
+use Rattle.qx_view.specs.Reading.{HasNode, IsBody, IsOfKind, IsTreeOf, StandsAt}
 use Rattle.qx_view.specs.Walk.{Taken, finding_of, inode_mode, inode_root, inode_tests, is_directory_inode, is_directory_kind, met_of, root_tests, taken_of, tests_of, top_tests}
 
 -- a position of a node is its owner's

@@ -26,7 +26,9 @@ use Rattle.qx_view.proofs.TreeFromTests.{each}
 use Rattle.qx_view.proofs.TreeLocality.{not_special}
 use Rattle.qx_view.proofs.WalkEnds.{Named, after_cases, first, firsts, firsts-append, inodes, named_listed, new_among, next}
 use Rattle.qx_view.specs.Images.{Roots, has_inode, inode_places, long_name, raw_of, record_block}
-use Rattle.qx_view.specs.Reading.{AreRows, HasNode, IsBody, IsEntry, IsNode, IsOfKind, IsTreeOf, OfInode, Owner, is_plain, long_slot, slot_of, slots_read}
+use Rattle.qx_model.specs.Owners.{OfInode, Owner}
+use Rattle.qx_model.specs.Rooted.{AreRows, is_plain}
+use Rattle.qx_view.specs.Reading.{HasNode, IsBody, IsEntry, IsNode, IsOfKind, IsTreeOf, long_slot, slot_of, slots_read}
 use Rattle.qx_view.specs.Walk.{Met, Place, Taken, Test, Tested, first_failing, inode_mode, inode_root, inode_tests, is_directory_inode, is_directory_kind, kind_tests, listed_after, met_of, named_inode, named_inodes, new_ones, node_tests, record_tests, records_tests, row_tests, slot_name, taken_from, taken_of, visit_tests}
 
 -- each test of its own passes

@@ -21,7 +21,8 @@ use Rattle.qx_view.proofs.TakenInodes.{HasParent, once_within, taken_listed, tak
 use Rattle.qx_view.proofs.TreeFound.{NamedAt, TakenWith, body_found, entry_as, entry_found, entry_in, found_slots, in_entry, names_to_slots, parent_in, slots_found, slots_to_names, taken_with, tree_found}
 use Rattle.qx_view.proofs.WalkEnds.{Named, RowsInRange, first, inodes, next, walk_closed, walk_is_least}
 use Rattle.qx_view.specs.Images.{Roots, has_inode, inode_of, inode_places, raw_of}
-use Rattle.qx_view.specs.Reading.{AreRows, IsEntry, IsOfKind, IsRooted, attr_of, slot_of, slots_read}
+use Rattle.qx_model.specs.Rooted.{AreRows, IsRooted}
+use Rattle.qx_view.specs.Reading.{IsEntry, IsOfKind, attr_of, slot_of, slots_read}
 use Rattle.qx_view.specs.Walk.{Tested, finding_of, inode_mode, inode_root, inode_tests, is_directory_inode, is_directory_kind, kind_tests, named_inode, named_inodes, node_tests, root_tests, taken_from, taken_of, tests_of, top_tests}
 
 module _ (m : BlockMap) (r : Roots) (s : HasSize m) (none : finding_of m r ≡ None) where

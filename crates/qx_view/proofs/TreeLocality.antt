@@ -20,7 +20,8 @@ use Rattle.qx_nodes.specs.Visits.{AgreesOn, IsMet, LiesBelow, Visit, is_leaf, vi
 use Rattle.qx_records.specs.InodeRecord.{inode_in}
 use Rattle.qx_records.specs.NameRecord.{Bad, Long, RawRecord, Short, Unused, long_name_in, raw_in}
 use Rattle.qx_view.specs.Images.{Roots, has_inode, inode_of, long_name, name_at_leaf, places_in, raw_of}
-use Rattle.qx_view.specs.Reading.{HasNode, IsBody, IsEntry, IsHeld, IsNode, IsOfKind, IsTreeOf, OfFurther, OfInode, OfInodes, OfLongfile, Owner, StandsAt, attr_of, long_slot, slot_of, slots_read}
+use Rattle.qx_model.specs.Owners.{OfFurther, OfInode, OfInodes, OfLongfile, Owner}
+use Rattle.qx_view.specs.Reading.{HasNode, IsBody, IsEntry, IsHeld, IsNode, IsOfKind, IsTreeOf, StandsAt, attr_of, long_slot, slot_of, slots_read}
 
 -- the inodes that have a place stand within the Inode tree's size
 pub place_within : (inodes : Root) (n : ℕ) → IsTrue (has_inode inodes n) → n * 128 ≤ inodes.size

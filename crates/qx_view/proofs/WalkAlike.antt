@@ -21,7 +21,8 @@ use Rattle.qx_view.proofs.NodesAlike.{AgreesAt, raw_alike}
 use Rattle.qx_view.proofs.TestsFromTree.{TakenIn, kind_here, taken_in}
 use Rattle.qx_view.proofs.TreeLocality.{agrees, inode_same, longfile_reaches, not_special, record_below, slot_local}
 use Rattle.qx_view.specs.Images.{Roots, inode_of, inode_places, raw_of}
-use Rattle.qx_view.specs.Reading.{IsHeld, IsNode, IsOfKind, IsTreeOf, OfFurther, OfInode, OfInodes, OfLongfile}
+use Rattle.qx_model.specs.Owners.{OfFurther, OfInode, OfInodes, OfLongfile}
+use Rattle.qx_view.specs.Reading.{IsHeld, IsNode, IsOfKind, IsTreeOf}
 use Rattle.qx_view.specs.Sound.{is_special_inode, is_special_kind, outer_blocks, outer_nodes}
 use Rattle.qx_view.specs.Walk.{Taken, inode_mode, inode_root, is_directory_inode, is_directory_kind, listed_after, named_inode, named_inodes, new_ones, taken_from, taken_of, walked_inodes}
 

@@ -1,5 +1,5 @@
 -- When a tree is what blocks mean: a relation, by cases.
-use Rattle.std.specs.Prelude.{◌≡◌, ◌≢◌, ℕ, ◌/◌, ◌<◌, Bool, false, not, ◌||◌, List, [], ◌∷◌, length, map, Option, Some, None, IsTrue, ◌==◌, if◌then◌else◌, slice_get, Contains}
+use Rattle.std.specs.Prelude.{◌≡◌, ℕ, ◌/◌, ◌<◌, false, List, [], length, map, Option, Some, None, IsTrue, if◌then◌else◌, slice_get, Contains}
 use Rattle.std.specs.List.{list_all}
 use Rattle.qx_geom.specs.declared.root.Root.{Root}
 use Rattle.qx_geom.specs.Lists.{each_below}
@@ -15,7 +15,9 @@ use Rattle.qx_records.specs.NameRecord.{RawRecord, Short, Long, Bad}
 use Rattle.qx_records.specs.NameRecord as records
 use Rattle.qx_records.specs.NameSum.{sum_fits}
 use Rattle.qx_model.specs.declared.attr.Attr.{Attr}
-use Rattle.qx_model.specs.Tree.{Slot, Unused, Row, Body, Directory, File, Link, Special, Entry, Tree, entry_of, slots_of, is_special_body, NamesAt, Names, Reached, IsDirectory}
+use Rattle.qx_model.specs.Owners.{Owner, OfInodes, OfLongfile, OfFurther, OfInode}
+use Rattle.qx_model.specs.Rooted.{IsRooted}
+use Rattle.qx_model.specs.Tree.{Slot, Unused, Row, Body, Directory, File, Link, Special, Entry, Tree, entry_of, is_special_body}
 use Rattle.qx_super.specs.Superblock.{Superblock}
 use Rattle.qx_super.specs.Active.{active_super}
 use Rattle.qx_view.specs.Images.{Roots, main_roots, image_blocks, inode_places, inode_of, has_inode, raw_of, long_name}
@@ -80,13 +82,6 @@ pub record IsEntry (m : BlockMap) (r : Roots) (n : ℕ) (e : Entry) : Type 0 whe
 
 -- ---- positions
 
--- whose node a position is in
-pub data Owner : Type 0 where
-  OfInodes : Owner
-  OfLongfile : Owner
-  OfFurther : ℕ → Owner
-  OfInode : ℕ → Owner
-
 -- the node of an owner; a special has none
 abbrev pub HasNode : BlockMap → Roots → Tree → Owner → Root → Type 0
 HasNode m r t OfInodes node = node ≡ r.inodes
@@ -111,27 +106,6 @@ abbrev pub IsApart : BlockMap → Roots → Tree → Type 0
 IsApart m r t = (o p : Owner) (v w : Visit) → StandsAt m r t o v → StandsAt m r t p w → v.block ≡ w.block → (o ≡ p) × (v ≡ w)
 
 -- ---- trees
-
--- no byte 0 or `/`
-abbrev pub is_plain : List ℕ → Bool
-is_plain name = list_all (λ c. not ((c == 0) || (c == 47))) name
-
--- what the rows of directory d, whose parent is p, are: plain names that differ, and `.` and `..`, where they stand, name d and p
-pub record AreRows (d p : ℕ) (slots : List Slot) : Type 0 where
-  pub plain : (k n : ℕ) (name : List ℕ) (long : Option ℕ) → slice_get slots k ≡ Some (Row n name long) → IsTrue (is_plain name)
-  pub differ : (k j n i : ℕ) (name : List ℕ) (a b : Option ℕ) → slice_get slots k ≡ Some (Row n name a) → slice_get slots j ≡ Some (Row i name b) → k ≡ j
-  pub dot : (k n : ℕ) (long : Option ℕ) → slice_get slots k ≡ Some (Row n (46 ∷ []) long) → n ≡ d
-  pub dots : (k n : ℕ) (long : Option ℕ) → slice_get slots k ≡ Some (Row n (46 ∷ 46 ∷ []) long) → n ≡ p
-
--- what a tree is by itself: its inodes are the reached ones, and each directory but inode 1 is named by one row, which is its parent's
-pub record IsRooted (t : Tree) : Type 0 where
-  pub reached : (n : ℕ) (e : Entry) → entry_of t n ≡ Some e → Reached t n
-  pub closed : (n : ℕ) → Reached t n → (e : Entry) × (entry_of t n ≡ Some e)
-  pub top : IsDirectory t 1 1
-  pub parent : (d p : ℕ) → IsDirectory t d p → d ≢ 1 → Names t p d
-  pub no_top : (d : ℕ) → Names t d 1 → ⊥
-  pub once : (d k c j n p : ℕ) → NamesAt t d k n → NamesAt t c j n → IsDirectory t n p → (d ≡ c) × (k ≡ j)
-  pub rows : (d p : ℕ) → IsDirectory t d p → AreRows d p (slots_of t d)
 
 -- t is the tree that begins at these roots
 pub record IsTreeOf (m : BlockMap) (r : Roots) (t : Tree) : Type 0 where

@@ -33,7 +33,8 @@ use Rattle.qx_view.proofs.TestOrder.{met_once}
 use Rattle.qx_view.proofs.TreeFound.{tree_found}
 use Rattle.qx_view.proofs.TreeFromTests.{kind_known}
 use Rattle.qx_view.specs.Images.{Roots, main_roots}
-use Rattle.qx_view.specs.Reading.{IsHeld, IsTreeOf, OfFurther, OfInode, OfInodes, OfLongfile, Owner}
+use Rattle.qx_model.specs.Owners.{OfFurther, OfInode, OfInodes, OfLongfile, Owner}
+use Rattle.qx_view.specs.Reading.{IsHeld, IsTreeOf}
 use Rattle.qx_view.specs.Sound.{is_laid_out, is_special_inode, is_special_kind, outer_blocks}
 use Rattle.qx_view.specs.Usage.{met_blocks}
 use Rattle.qx_view.specs.Walk.{Taken, finding_of, inode_mode, inode_root, taken_of, tests_of, walked_inodes}

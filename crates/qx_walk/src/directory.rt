@@ -10,7 +10,7 @@ ghost use Rattle.qx_records.specs.NameRecord.{Long};
 ghost use Rattle.qx_records.specs.NameSum.{sum_fits};
 ghost use Rattle.qx_records.specs.Slots.{raw_of_slot};
 ghost use Rattle.qx_view.specs.Images.{Roots, leaf_records};
-ghost use Rattle.qx_view.specs.Reading.{is_plain};
+ghost use Rattle.qx_model.specs.Rooted.{is_plain};
 ghost use Rattle.qx_view.specs.Sound.{is_short as is_short_record};
 ghost use Rattle.qx_view.specs.Walk.{is_directory_kind};
 ghost use Rattle.qx_pointers.specs.declared.halt.Halt.TheVariants as halts;
