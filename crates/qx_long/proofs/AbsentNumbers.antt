@@ -10,7 +10,8 @@ use Rattle.qx_nodes.specs.Leaves.{Block, Damage, Hole, Leaf, leaf_of}
 use Rattle.qx_nodes.specs.Visits.{IsMet, LiesBelow, Visit, present_of, visits_of}
 use Rattle.qx_nodes.proofs.LeafPaths.{node_leaf_met}
 use Rattle.qx_nodes.proofs.MetLeaves.{leaf_member, leaf_visit, node_leaf_found}
-use Rattle.qx_long.specs.LongNames.{HasLeaves, IsAbsent, long_name, name_at_leaf}
+use Rattle.qx_nodes.specs.LongNames.{long_name, name_at_leaf}
+use Rattle.qx_long.specs.AbsentNumbers.{HasLeaves, IsAbsent}
 
 -- a number whose leaf is a block's isn't absent
 present_block : (m : BlockMap) (long : Root) (n b : ℕ) → LiesBelow m long n → leaf_of m long n ≡ Block b → is_in (present_of m long) n ≡ true

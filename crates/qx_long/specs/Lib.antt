@@ -1,2 +1,2 @@
-pub mod LongNames
+pub mod AbsentNumbers
 pub mod NamePlans

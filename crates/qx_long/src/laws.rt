@@ -9,7 +9,8 @@ ghost use Rattle.qx_nodes.specs.BlockMap.{BlockMap};
 ghost use Rattle.qx_nodes.specs.Leaves.{Hole, leaf_of, leaves_below};
 ghost use Rattle.qx_nodes.specs.Visits.{LiesBelow};
 ghost use Rattle.qx_ptree.specs.Fates.{IsChange, leaves_after, written_by};
-ghost use Rattle.qx_long.specs.LongNames.{HasLeaves, IsAbsent, long_name};
+ghost use Rattle.qx_nodes.specs.LongNames.{long_name};
+ghost use Rattle.qx_long.specs.AbsentNumbers.{HasLeaves, IsAbsent};
 ghost use Rattle.qx_long.specs.NamePlans.{name_change};
 
 /// A number is absent exactly where its leaf is a hole or lies past the size, and no name has an absent number.

@@ -1,7 +1,7 @@
 //! Long names: leaf n of the Longfile has the name of number n.
 //!
-//! Stands on `qx_ptree` for the leaves of a node and on `qx_records` for what a leaf says; operations stand on it.
-//! Its contract: the map of `specs/LongNames.antt`, number by number, and the changes of `specs/NamePlans.antt`.
+//! Stands on `qx_ptree` for the leaves of a node, and on `qx_nodes` and `qx_records` for what a leaf says; operations stand on it.
+//! Its contract: the long names that `qx_nodes` defines, number by number, which numbers are absent (`specs/AbsentNumbers.antt`), and the changes of `specs/NamePlans.antt`.
 //! It keeps no state and takes no memory: a name is lent from its block.
 //! It reads no leaf to find the number for a new name, and writes nothing.
 #![tactic(auto)]

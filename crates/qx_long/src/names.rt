@@ -5,7 +5,7 @@ ghost use Rattle.std.specs.Io.BufRead.{Rests};
 ghost use Rattle.std.specs.Option.{option_copied};
 ghost use Rattle.qx_blocks.specs.Calls.{OnlyReads};
 ghost use Rattle.qx_ptree.specs.Trees.{HasLevels, IsWorking, block_map};
-ghost use Rattle.qx_long.specs.LongNames.{long_name};
+ghost use Rattle.qx_nodes.specs.LongNames.{long_name};
 
 use qx_blocks::{Blocks, Stop};
 use qx_fields::Order;

@@ -4,7 +4,7 @@ ghost use Rattle.qx_geom.specs.Lists.{is_in};
 ghost use Rattle.qx_nodes.specs.Visits.{present_of};
 ghost use Rattle.qx_blocks.specs.Calls.{OnlyReads};
 ghost use Rattle.qx_ptree.specs.Trees.{HasLevels, IsWorking, block_map};
-ghost use Rattle.qx_long.specs.LongNames.{HasAbsent, IsAbsent};
+ghost use Rattle.qx_long.specs.AbsentNumbers.{HasAbsent, IsAbsent};
 
 use qx_blocks::{Blocks, Stop};
 use qx_fields::Order;

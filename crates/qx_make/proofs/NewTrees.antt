@@ -23,7 +23,8 @@ use Rattle.qx_records.specs.declared.kind.Kind.TheVariants as kinds
 use Rattle.qx_records.specs.InodeRecord.{kind_of}
 use Rattle.qx_model.specs.EmptyTree.{empty_tree}
 use Rattle.qx_model.specs.Tree.{Entry}
-use Rattle.qx_view.specs.Images.{Roots, inode_of, inode_places, long_name}
+use Rattle.qx_nodes.specs.LongNames.{long_name}
+use Rattle.qx_view.specs.Images.{Roots, inode_of, inode_places}
 use Rattle.qx_view.specs.Reading.{IsEntry, IsOfKind, IsTreeOf, attr_of}
 use Rattle.qx_make.specs.Blocks.{top_block, top_inode}
 use Rattle.qx_make.specs.NewVolume.{empty_root, new_roots}

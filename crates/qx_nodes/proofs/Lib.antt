@@ -4,3 +4,5 @@ pub mod ContentLocality
 pub mod DistinctPositions
 pub mod MetLeaves
 pub mod AbsentLeaves
+pub mod ZeroBytes
+pub mod NamesOfLeaves

@@ -5,4 +5,5 @@ pub mod BlockMap
 pub mod Leaves
 pub mod Visits
 pub mod Content
+pub mod LongNames
 pub mod ForeignNodes

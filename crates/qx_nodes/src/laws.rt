@@ -1,5 +1,5 @@
 //! Laws of what a node's pointers lead to.
-ghost use Rattle.std.specs.Prelude.{◌≡◌, ℕ, ◌<◌, List, Contains, replicate};
+ghost use Rattle.std.specs.Prelude.{◌≡◌, ℕ, ◌*◌, ◌<◌, List, Contains, None, nat_lt, if◌then◌else◌, replicate};
 ghost use Rattle.qx_geom.specs.declared.root.Root.{Root};
 ghost use Rattle.qx_geom.specs.Lists.{Distinct, IsAscending};
 ghost use Rattle.qx_geom.specs.Pointer.{per_block};
@@ -7,6 +7,8 @@ ghost use Rattle.qx_nodes.specs.BlockMap.{BlockMap, with_bytes};
 ghost use Rattle.qx_nodes.specs.Leaves.{Block, leaf_of};
 ghost use Rattle.qx_nodes.specs.Visits.{AgreesOn, IsMet, LiesBelow, Visit, present_of, visits_of};
 ghost use Rattle.qx_nodes.specs.Content.{Reaches, byte_of, content_of, leaf_bytes, piece_of};
+ghost use Rattle.qx_nodes.specs.LongNames.{long_name};
+ghost use Rattle.qx_records.specs.NameRecord.{long_name_in};
 
 /// What the path to a leaf below the size gives, the walk of the node meets.
 pub fn a_leaf_by_its_path_is_met()
@@ -57,4 +59,10 @@ pub fn what_is_met_decides_content()
 /// No position is met twice in a node.
 pub fn no_position_is_met_twice()
     ensures { (m : BlockMap) (node : Root) → 0 < per_block m.size → Distinct (visits_of m node) }
+{}
+
+/// A long name is what the bytes of its leaf say, bytes 0 for a hole, as far as the Longfile goes.
+pub fn a_name_is_what_its_leaf_says()
+    ensures { (m : BlockMap) (longfile : Root) (n : ℕ)
+        → long_name m longfile n ≡ (if nat_lt (n * m.size) longfile.size then long_name_in m.order (leaf_bytes m longfile n) else None) }
 {}

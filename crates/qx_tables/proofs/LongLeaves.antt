@@ -30,7 +30,7 @@ use Rattle.qx_nodes.specs.Leaves.{Block, Hole, leaf_of, leaves_below}
 use Rattle.qx_nodes.specs.Visits.{LiesBelow, present_of}
 use Rattle.qx_records.specs.NameRecord.{long_name_in}
 use Rattle.qx_view.proofs.AlikeLists.{members_map}
-use Rattle.qx_view.specs.Images.{long_name, name_at_leaf}
+use Rattle.qx_nodes.specs.LongNames.{long_name, name_at_leaf}
 use Rattle.qx_tables.proofs.LeafLists.{leaf_listed, leaf_unlisted, listed_ascend, listed_below, numbers_of, numbers_present}
 use Rattle.qx_tables.specs.declared.long_names.LongLeaf.{LongLeaf}
 use Rattle.qx_tables.specs.declared.long_names.LongNames.{LongNames}

@@ -27,7 +27,7 @@ impl LongNames {
     ghost use Rattle.qx_geom.specs.Lists.{IsAscending};
     ghost use Rattle.qx_geom.specs.declared.root.Root.{Root as node};
     ghost use Rattle.qx_nodes.specs.BlockMap.{BlockMap};
-    ghost use Rattle.qx_view.specs.Images.{long_name};
+    ghost use Rattle.qx_nodes.specs.LongNames.{long_name};
     ghost use Rattle.qx_pointers.specs.declared.halt.Halt.TheVariants as halts;
     ghost use Rattle.qx_pointers.specs.Halts.{Asks};
     ghost use Rattle.qx_pointers.specs.Parts.{IsPlaced};

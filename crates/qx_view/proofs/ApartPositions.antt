@@ -23,7 +23,8 @@ use Rattle.qx_view.proofs.TestOrder.{met_once}
 use Rattle.qx_view.proofs.TreeFound.{TakenWith, body_found, entry_found, in_entry, parent_in, tree_found, tree_places}
 use Rattle.qx_view.proofs.TreeFromTests.{each, further_parts, it_of, kind_passes, root_parts, rooted}
 use Rattle.qx_view.proofs.WalkEnds.{inodes}
-use Rattle.qx_view.specs.Images.{Roots, has_inode, long_name, raw_of, record_block}
+use Rattle.qx_nodes.specs.LongNames.{long_name}
+use Rattle.qx_view.specs.Images.{Roots, has_inode, raw_of, record_block}
 use Rattle.qx_model.specs.Owners.{OfFurther, OfInode, OfInodes, OfLongfile, Owner}
 use Rattle.qx_view.specs.Reading.{HasNode, IsApart, IsTreeOf, IsUndamaged, StandsAt, slot_of}
 use Rattle.qx_view.specs.Walk.{Met, Place, Taken, Test, Tested, finding_of, inode_mode, inode_root, inode_tests, is_directory_inode, kind_tests, met_of, named_inode, node_tests, record_tests, records_tests, root_tests, row_tests, slot_name, taken_of, tests_of, top_tests, visit_tests}

@@ -19,7 +19,8 @@ use Rattle.qx_records.specs.NameSum.{sum_fits}
 use Rattle.qx_view.proofs.PassingTests.{NodePasses, Passing, RowPasses, SlotsPass, node_passes, passing_parts, records_pass, row_at}
 use Rattle.qx_view.proofs.TreeFound.{NamedAt, each_self, names_to_slots}
 use Rattle.qx_view.proofs.WalkEnds.{inodes}
-use Rattle.qx_view.specs.Images.{Roots, has_inode, long_name, raw_of}
+use Rattle.qx_nodes.specs.LongNames.{long_name}
+use Rattle.qx_view.specs.Images.{Roots, has_inode, raw_of}
 use Rattle.qx_view.specs.Reading.{long_slot, slot_of, slots_read}
 use Rattle.qx_view.specs.Walk.{Taken, inode_mode, inode_root, is_directory_inode, is_directory_kind, kind_tests, named_inode, named_inodes, node_tests, records_tests}
 

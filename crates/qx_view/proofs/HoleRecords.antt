@@ -1,13 +1,12 @@
 -- The records of a directory that lie in no present leaf say nothing.
-use Rattle.std.proofs.Common.{◌≡◌, ℕ, zero, suc, ◌+◌, ◌-◌, ◌*◌, ◌/◌, ◌%◌, ◌<◌, ◌≤◌, inl, inr, List, [], ◌∷◌, ◌++◌, refl, ap, sym, ◌∙◌, subst, arith}
-use Rattle.std.specs.Prelude.{Bool, true, false, ◌||◌, if◌then◌else◌, IsTrue, Option, None, option_to_list, Contains, filter, filter_map, replicate, slice_index, slice_range, take}
+use Rattle.std.proofs.Common.{◌≡◌, ℕ, zero, suc, ◌+◌, ◌-◌, ◌*◌, ◌/◌, ◌%◌, ◌<◌, ◌≤◌, List, [], ◌∷◌, ◌++◌, refl, ap, sym, ◌∙◌, subst, arith}
+use Rattle.std.specs.Prelude.{Bool, true, false, ◌||◌, if◌then◌else◌, IsTrue, Option, None, option_to_list, Contains, filter, filter_map, replicate, slice_range}
 use Rattle.std.specs.List.{cons_option, range_with_len}
 use Rattle.std.proofs.Math.Nat.{add-mul, div-div-eq-div-mul, mod-lt, mul-div_cancel, one-mul}
-use Rattle.std.proofs.lemmas.Bool.{cases_lt, eq-eqb}
-use Rattle.std.proofs.lemmas.List.{drop-replicate, length-replicate, map-id, take-replicate, take_all}
+use Rattle.std.proofs.lemmas.Bool.{eq-eqb}
+use Rattle.std.proofs.lemmas.List.{map-id}
 use Rattle.std.proofs.lemmas.Nat.{div-add-mod', div-mul-add, mul-le}
-use Rattle.qx_fields.specs.Number.{field, number}
-use Rattle.qx_fields.specs.declared.order.Order.TheVariants.{Big, Little}
+use Rattle.qx_fields.specs.Number.{field}
 use Rattle.qx_fields.specs.declared.order.Order.{Order}
 use Rattle.qx_geom.proofs.ImagesAndFilters.{Contains-in, in_Contains}
 use Rattle.qx_geom.proofs.Members.{Contains-cons, Contains-head}
@@ -19,6 +18,7 @@ use Rattle.qx_geom.proofs.AscendingLists.{ascending_same}
 use Rattle.qx_nodes.proofs.AbsentLeaves.{absent_bytes}
 use Rattle.qx_nodes.proofs.ContentLocality.{lies_below, reaches_of}
 use Rattle.qx_nodes.proofs.MetLeaves.{present_ascends}
+use Rattle.qx_nodes.proofs.ZeroBytes.{field_zeros, slice_zeros, zeros}
 use Rattle.qx_nodes.specs.BlockMap.{BlockMap}
 use Rattle.qx_nodes.specs.Content.{HasSize, levels_fit}
 use Rattle.qx_nodes.specs.Visits.{present_of}
@@ -33,36 +33,10 @@ use Rattle.qx_view.specs.Walk.{Test, named_inode, record_tests, records_tests, s
 
 -- ---- zeros
 
--- so many zeros
-abbrev zeros : ℕ → List ℕ
-zeros n = replicate n 0
-
 -- bytes 0 are 0
 pub are_zero-replicate : (n : ℕ) → are_zero (replicate n 0) ≡ true
 are_zero-replicate zero = refl
 are_zero-replicate (suc n) = are_zero-replicate n
-
--- a piece of zeros is zeros
-slice_zeros : (n a b : ℕ) → (c : ℕ) × (slice_range (zeros n) a b ≡ zeros c)
-slice_zeros n a b = elim (cases_lt (b - a) (n - a)) [
-  | inl less ↦ (b - a, ap (take (b - a)) (drop-replicate {X = ℕ} a n 0) ∙ take-replicate {X = ℕ} (b - a) (n - a) 0 (omega arith))
-  | inr all ↦ (n - a, ap (take (b - a)) (drop-replicate {X = ℕ} a n 0) ∙ take_all (b - a) (zeros (n - a)) (omega (arith, length-replicate {A = ℕ} (n - a) 0)))
-]
-
--- each of them is 0
-zero_at : (c i : ℕ) → slice_index (zeros c) i ≡ 0
-zero_at zero i = refl
-zero_at (suc c) zero = refl
-zero_at (suc c) (suc i) = zero_at c i
-
--- so a number among zeros is 0
-field_zeros : (order : Order) (c at : ℕ) → field order 4 (zeros c) at ≡ 0
-unfolding field
-field_zeros order c at = let z = slice_zeros c at (at + 4) in ap (λ bs. number order 4 bs) z.1 ∙ by_order order z.0
-  where
-    by_order : (order : Order) (d : ℕ) → number order 4 (zeros d) ≡ 0
-    by_order Little d = omega (arith, zero_at d 0, zero_at d 1, zero_at d 2, zero_at d 3)
-    by_order Big d = omega (arith, zero_at d 0, zero_at d 1, zero_at d 2, zero_at d 3)
 
 -- a record of zeros is unused
 raw_zeros : (order : Order) (c : ℕ) → raw_in order (zeros c) ≡ Unused

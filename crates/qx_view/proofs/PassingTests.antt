@@ -21,7 +21,8 @@ use Rattle.qx_view.specs.declared.findings.Code.{Code}
 use Rattle.qx_view.specs.declared.findings.Finding.{Finding}
 use Rattle.qx_view.proofs.TestOrder.{first_failing-append, if_none, or_else}
 use Rattle.qx_view.specs.Walk.{gone_through}
-use Rattle.qx_view.specs.Images.{Roots, has_inode, long_name, raw_of, record_block}
+use Rattle.qx_nodes.specs.LongNames.{long_name}
+use Rattle.qx_view.specs.Images.{Roots, has_inode, raw_of, record_block}
 use Rattle.qx_model.specs.Rooted.{is_plain}
 use Rattle.qx_view.specs.Reading.{long_slot, slot_of}
 use Rattle.qx_view.specs.Walk.{Met, Place, Test, Tested, first_failing, inode_mode, is_directory_inode, named_inode, node_tests, record_tests, records_tests, row_tests, slot_name, visit_tests}

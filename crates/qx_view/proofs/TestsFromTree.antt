@@ -25,7 +25,8 @@ use Rattle.qx_view.proofs.TreeFound.{NamedAt, each_self, names_to_slots, slots_t
 use Rattle.qx_view.proofs.TreeFromTests.{each}
 use Rattle.qx_view.proofs.TreeLocality.{not_special}
 use Rattle.qx_view.proofs.WalkEnds.{Named, after_cases, first, firsts, firsts-append, inodes, named_listed, new_among, next}
-use Rattle.qx_view.specs.Images.{Roots, has_inode, inode_places, long_name, raw_of, record_block}
+use Rattle.qx_nodes.specs.LongNames.{long_name}
+use Rattle.qx_view.specs.Images.{Roots, has_inode, inode_places, raw_of, record_block}
 use Rattle.qx_model.specs.Owners.{OfInode, Owner}
 use Rattle.qx_model.specs.Rooted.{AreRows, is_plain}
 use Rattle.qx_view.specs.Reading.{HasNode, IsBody, IsEntry, IsNode, IsOfKind, IsTreeOf, long_slot, slot_of, slots_read}

@@ -18,7 +18,8 @@ use Rattle.qx_nodes.specs.Leaves.{leaves_below}
 use Rattle.qx_nodes.specs.Visits.{present_of}
 use Rattle.qx_records.specs.InodeRecord.{kind_of}
 use Rattle.qx_view.proofs.WalkEnds.{inodes}
-use Rattle.qx_view.specs.Images.{Roots, inode_of, inode_places, long_name}
+use Rattle.qx_nodes.specs.LongNames.{long_name}
+use Rattle.qx_view.specs.Images.{Roots, inode_of, inode_places}
 use Rattle.qx_view.specs.Reading.{attr_of, slots_read}
 use Rattle.qx_view.specs.Walk.{Taken, inode_mode, inode_root, taken_of}
 

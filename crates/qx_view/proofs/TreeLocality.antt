@@ -19,7 +19,8 @@ use Rattle.qx_nodes.specs.Leaves.{Block, Damage, Hole, Leaf, leaf_of, leaves_bel
 use Rattle.qx_nodes.specs.Visits.{AgreesOn, IsMet, LiesBelow, Visit, is_leaf, visits_of}
 use Rattle.qx_records.specs.InodeRecord.{inode_in}
 use Rattle.qx_records.specs.NameRecord.{Bad, Long, RawRecord, Short, Unused, long_name_in, raw_in}
-use Rattle.qx_view.specs.Images.{Roots, has_inode, inode_of, long_name, name_at_leaf, places_in, raw_of}
+use Rattle.qx_nodes.specs.LongNames.{long_name, name_at_leaf}
+use Rattle.qx_view.specs.Images.{Roots, has_inode, inode_of, places_in, raw_of}
 use Rattle.qx_model.specs.Owners.{OfFurther, OfInode, OfInodes, OfLongfile, Owner}
 use Rattle.qx_view.specs.Reading.{HasNode, IsBody, IsEntry, IsHeld, IsNode, IsOfKind, IsTreeOf, StandsAt, attr_of, long_slot, slot_of, slots_read}
 

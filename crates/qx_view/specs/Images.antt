@@ -1,5 +1,5 @@
 -- The blocks of an image, and the records that stand in its nodes.
-use Rattle.std.specs.Prelude.{ℕ, ◌+◌, ◌*◌, ◌-◌, ◌^◌, ◌/◌, ◌<◌, min, Bool, List, [], ◌∷◌, Option, None, Contains, flat_map, nat_le, nat_lt, slice_range, if◌then◌else◌}
+use Rattle.std.specs.Prelude.{ℕ, ◌+◌, ◌*◌, ◌-◌, ◌^◌, ◌/◌, ◌<◌, min, Bool, List, [], ◌∷◌, Contains, flat_map, nat_le, nat_lt, slice_range, if◌then◌else◌}
 use Rattle.std.specs.List.{range_with_len}
 use Rattle.qx_geom.specs.declared.root.Root.{Root}
 use Rattle.qx_geom.specs.Layout.{blocks_begin}
@@ -11,7 +11,7 @@ use Rattle.qx_nodes.specs.Content.{piece_of}
 use Rattle.qx_nodes.specs.Visits.{present_of}
 use Rattle.qx_records.specs.declared.inode.Inode.{Inode}
 use Rattle.qx_records.specs.InodeRecord.{inode_in}
-use Rattle.qx_records.specs.NameRecord.{RawRecord, raw_in, long_name_in}
+use Rattle.qx_records.specs.NameRecord.{RawRecord, raw_in}
 use Rattle.qx_super.specs.Superblock.{Superblock}
 
 -- the bytes of a block of an image
@@ -82,13 +82,3 @@ block_at_leaf Damage = absent
 -- the block that holds record k of a directory
 abbrev pub record_block : BlockMap → Root → ℕ → ℕ
 record_block m node k = block_at_leaf (leaf_of m node (k * 32 / m.size))
-
--- the long name that a leaf has
-abbrev pub name_at_leaf : BlockMap → Leaf → Option (List ℕ)
-name_at_leaf m (Block b) = long_name_in m.order (m.bytes b)
-name_at_leaf m Hole = None
-name_at_leaf m Damage = None
-
--- long name n, which is leaf n of the Longfile; none where the leaf is absent or its first byte lies past the size
-abbrev pub long_name : BlockMap → Root → ℕ → Option (List ℕ)
-long_name m longfile n = if nat_lt (n * m.size) longfile.size then name_at_leaf m (leaf_of m longfile n) else None

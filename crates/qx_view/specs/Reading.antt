@@ -20,7 +20,8 @@ use Rattle.qx_model.specs.Rooted.{IsRooted}
 use Rattle.qx_model.specs.Tree.{Slot, Unused, Row, Body, Directory, File, Link, Special, Entry, Tree, entry_of, is_special_body}
 use Rattle.qx_super.specs.Superblock.{Superblock}
 use Rattle.qx_super.specs.Active.{active_super}
-use Rattle.qx_view.specs.Images.{Roots, main_roots, image_blocks, inode_places, inode_of, has_inode, raw_of, long_name}
+use Rattle.qx_nodes.specs.LongNames.{long_name}
+use Rattle.qx_view.specs.Images.{Roots, main_roots, image_blocks, inode_places, inode_of, has_inode, raw_of}
 
 -- ---- entries
 

@@ -17,7 +17,8 @@ use Rattle.qx_model.specs.Tree.{Slot, Unused, Row, is_dots, named_by}
 use Rattle.qx_view.specs.declared.findings.Code.TheVariants as codes
 use Rattle.qx_view.specs.declared.findings.Finding.{Finding}
 use Rattle.qx_view.specs.declared.findings.Code.{Code}
-use Rattle.qx_view.specs.Images.{Roots, all_records, inode_places, inode_of, has_inode, raw_of, record_block, long_name}
+use Rattle.qx_nodes.specs.LongNames.{long_name}
+use Rattle.qx_view.specs.Images.{Roots, all_records, inode_places, inode_of, has_inode, raw_of, record_block}
 use Rattle.qx_model.specs.Rooted.{is_plain}
 use Rattle.qx_view.specs.Reading.{slot_of}
 

@@ -10,7 +10,8 @@ use Rattle.qx_records.specs.InodeRecord.{kind_of}
 use Rattle.qx_records.specs.NameRecord.{Long, RawRecord, Short}
 use Rattle.qx_records.specs.NameSum.{sum_fits}
 use Rattle.qx_view.specs.declared.findings.Code.TheVariants as codes
-use Rattle.qx_view.specs.Images.{Roots, has_inode, long_name}
+use Rattle.qx_nodes.specs.LongNames.{long_name}
+use Rattle.qx_view.specs.Images.{Roots, has_inode}
 use Rattle.qx_model.specs.Rooted.{is_plain}
 use Rattle.qx_view.specs.Reading.{long_slot, slot_of}
 use Rattle.qx_view.specs.Walk.{Place, Test, Tested, first_failing, inode_mode, is_directory_inode, listed_after, new_ones, record_tests, row_tests, slot_name}

@@ -20,7 +20,8 @@ use Rattle.qx_view.proofs.TestOrder.{first_failing-append, or_else}
 use Rattle.qx_records.specs.NameRecord.{RawRecord, Unused, Short, Long, Bad}
 use Rattle.qx_model.specs.Tree.{is_dots}
 use Rattle.qx_view.specs.Reading.{slot_of}
-use Rattle.qx_view.specs.Images.{Roots, all_records, has_inode, inode_of, inode_places, long_name, raw_of, record_block}
+use Rattle.qx_nodes.specs.LongNames.{long_name}
+use Rattle.qx_view.specs.Images.{Roots, all_records, has_inode, inode_of, inode_places, raw_of, record_block}
 use Rattle.qx_nodes.specs.ForeignNodes.{is_foreign_node}
 use Rattle.qx_view.specs.Sound.{fails_dots, fails_nodes, fails_tail, has_tail, is_foreign_directory, is_special_kind, numbers_named_in}
 use Rattle.qx_view.specs.Walk.{Test, Tested, first_failing, gone_through, inode_mode, inode_root, inode_tests, inodes_named_in, is_directory_inode, is_directory_kind, named_inode, Place, record_tests, row_tests, slot_name, kind_tests, listed_after, new_ones, records_tests}
