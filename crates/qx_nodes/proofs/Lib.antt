@@ -6,3 +6,4 @@ pub mod MetLeaves
 pub mod AbsentLeaves
 pub mod ZeroBytes
 pub mod NamesOfLeaves
+pub mod PiecesOfContent

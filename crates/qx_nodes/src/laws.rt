@@ -1,5 +1,5 @@
 //! Laws of what a node's pointers lead to.
-ghost use Rattle.std.specs.Prelude.{◌≡◌, ℕ, ◌*◌, ◌<◌, List, Contains, None, nat_lt, if◌then◌else◌, replicate};
+ghost use Rattle.std.specs.Prelude.{◌≡◌, ℕ, ◌+◌, ◌*◌, ◌/◌, ◌%◌, ◌<◌, ◌≤◌, List, Contains, None, length, nat_lt, if◌then◌else◌, replicate, slice_range};
 ghost use Rattle.qx_geom.specs.declared.root.Root.{Root};
 ghost use Rattle.qx_geom.specs.Lists.{Distinct, IsAscending};
 ghost use Rattle.qx_geom.specs.Pointer.{per_block};
@@ -59,6 +59,13 @@ pub fn what_is_met_decides_content()
 /// No position is met twice in a node.
 pub fn no_position_is_met_twice()
     ensures { (m : BlockMap) (node : Root) → 0 < per_block m.size → Distinct (visits_of m node) }
+{}
+
+/// A piece of a node is that part of its content, where the leaf has it all.
+pub fn a_piece_is_a_part_of_the_content()
+    ensures { (m : BlockMap) (node : Root) (at count : ℕ) → at + count ≤ node.size → at % m.size + count ≤ m.size
+        → m.size ≤ length (leaf_bytes m node (at / m.size))
+        → piece_of m node at count ≡ slice_range (content_of m node) at (at + count) }
 {}
 
 /// A long name is what the bytes of its leaf say, bytes 0 for a hole, as far as the Longfile goes.
