@@ -18,7 +18,8 @@ use Rattle.qx_super.proofs.ActiveAreas.{IsSome-active_super, active_super-first,
 use Rattle.qx_super.proofs.SuperblockTests.{valid-blocks, valid-blocksize, valid-room}
 use Rattle.qx_view.specs.Images.{block_bytes, image_blocks, main_roots}
 use Rattle.qx_view.specs.Reading.{IsHeld, IsTree, IsTreeOf}
-use Rattle.qx_view.proofs.ImageTrees.{image_tree_local}
+use Rattle.qx_view.proofs.RoomForPointers.{tree_sized}
+use Rattle.qx_view.proofs.TreeLocality.{tree_local}
 use Rattle.qx_make.specs.Cut.{HasNoOtherSuperblock, IsLeftByMaker, old_volume}
 use Rattle.qx_make.proofs.BytesAt.{HasSame, byte_of_more, range_same}
 use Rattle.qx_make.proofs.SuperblocksAt.{second_at-is, second_search-named, second_super-at, second_super-unsearched, super_at, super_at-valid, super_at-wrong}
@@ -101,7 +102,8 @@ IsActiveSecond-is img e =
 -- where all blocks stay, an image keeps its trees
 tree_kept : (img other : List ℕ) (s : Superblock) (t : Tree) → active_super other ≡ active_super img → active_super img ≡ Some s → second_place_of s ≤ length img → second_place_of s ≤ length other
     → HasSame img other 0x3000 (second_place_of s) → IsTree img t → IsTree other t
-tree_kept img other s t supers is room also same (z, z_is, tree) = image_tree_local img other t supers held (z, z_is, tree)
+tree_kept img other s t supers is room also same (z, z_is, tree) =
+    (s, supers ∙ is, tree_local (image_blocks img s) (block_bytes other s.blocksize) (main_roots s) t (tree_sized (image_blocks img s) (main_roots s) t tree_of) tree_of same_block)
   where
     tree_of : IsTreeOf (image_blocks img s) (main_roots s) t
     tree_of = subst (λ (x : Superblock). IsTreeOf (image_blocks img x) (main_roots x) t) (same_Some z s (sym z_is ∙ is)) tree
@@ -112,9 +114,6 @@ tree_kept img other s t supers is room also same (z, z_is, tree) = image_tree_lo
         let up : (b + 1) * s.blocksize ≤ s.num_blocks * s.blocksize = mul-le (b + 1) s.blocksize s.num_blocks s.blocksize (omega arith) (omega arith) in
         let from = 0x3000 + b * s.blocksize in
         range_same img other from (from + s.blocksize) (omega arith) (omega arith) (record { each = λ k low high. same.each k (omega arith) (omega arith) })
-
-    held : (x : Superblock) → active_super img ≡ Some x → (b : ℕ) → IsHeld (image_blocks img x) (main_roots x) t b → block_bytes img x.blocksize b ≡ block_bytes other x.blocksize b
-    held x x_is = subst (λ (y : Superblock). (b : ℕ) → IsHeld (image_blocks img y) (main_roots y) t b → block_bytes img y.blocksize b ≡ block_bytes other y.blocksize b) (same_Some s x (sym is ∙ x_is)) same_block
 
 module _ (old : List ℕ) where
   -- with the old superblock, and all old blocks, an image has the old volume

@@ -30,7 +30,7 @@ use Rattle.qx_super.specs.declared.choice.Pick.TheVariants as picks
 use Rattle.qx_view.specs.declared.reasons.Reason.TheVariants as reasons
 use Rattle.qx_view.specs.declared.reasons.Reason.{Reason}
 use Rattle.qx_view.proofs.AlikeLists.{member_passes}
-use Rattle.qx_view.proofs.ImageTrees.{HasSize-image_blocks}
+use Rattle.qx_view.proofs.RoomForPointers.{tree_sized}
 use Rattle.qx_view.proofs.OuterNodes.{inode_outer, longfile_outer, outer_has}
 use Rattle.qx_view.proofs.SystemTrees.{IsInTree, met_in_tree, met_of_level, tree_met}
 use Rattle.qx_view.specs.Images.{image_blocks, main_roots}
@@ -257,9 +257,10 @@ sound_parts img t which s g sound active names written =
     let area : sound.area ≡ which = (let e : picks.Active sound.area ≡ picks.Active which = sym sound.active ∙ active in cc) in
     let same : sound.superblock ≡ s = same_Some sound.superblock s (sym sound.names ∙ names) in
     let no_reason : reason_of (image_blocks img s) s which (length img) ≡ None = subst (λ x. reason_of (image_blocks img x) x which (length img) ≡ None) same (subst (λ w. reason_of (image_blocks img sound.superblock) sound.superblock w (length img) ≡ None) area sound.no_reason) in
+    let tree : IsTreeOf (image_blocks img s) (main_roots s) t = subst (λ x. IsTreeOf (image_blocks img x) (main_roots x) t) same sound.tree in
     record {
-      size = HasSize-image_blocks img s names;
-      tree = subst (λ x. IsTreeOf (image_blocks img x) (main_roots x) t) same sound.tree;
+      size = tree_sized (image_blocks img s) (main_roots s) t tree;
+      tree = tree;
       geometry = written_is s (length img) g written;
       none = sym (ap (λ o. reason_with (image_blocks img s) s which o) written) ∙ no_reason;
     }

@@ -10,7 +10,6 @@ pub mod TreeFromTests
 pub mod ApartPositions
 pub mod TestsFromTree
 pub mod TestsAndTree
-pub mod ImageTrees
 pub mod Verdicts
 pub mod AlikeLists
 pub mod SystemTrees
@@ -27,3 +26,4 @@ pub mod ReasonsAlike
 pub mod SoundLocality
 pub mod SoundPlaces
 pub mod SmallImages
+pub mod RoomForPointers

@@ -1,6 +1,6 @@
 -- Images that agree on what the tree holds and on the other half's pointer blocks are sound alike.
 use Rattle.std.proofs.Common.{◌≡◌, ◌⊎◌, inl, inr, ℕ, zero, suc, ◌+◌, ◌-◌, ◌*◌, ◌/◌, ◌≤◌, ◌<◌, List, [], ◌∷◌, length, refl, ap, sym, ◌∙◌, subst, arith}
-use Rattle.std.specs.Prelude.{◌↔◌, Bool, Contains, true, false, ◌&&◌, ◌==◌, Option, Some, None, if◌then◌else◌, nat_le, slice_get}
+use Rattle.std.specs.Prelude.{◌↔◌, Contains, ◌&&◌, ◌==◌, Option, Some, None, if◌then◌else◌, nat_le, slice_get}
 use Rattle.std.specs.List.{list_all}
 use Rattle.std.proofs.lemmas.Bool.{cond-true, lt-ltb}
 use Rattle.std.proofs.lemmas.Nat.{div_below}
@@ -33,7 +33,7 @@ use Rattle.qx_super.specs.declared.choice.Pick.TheVariants as picks
 use Rattle.qx_view.specs.declared.reasons.Reason.TheVariants as reasons
 use Rattle.qx_view.proofs.ActiveHalf.{SoundParts, bitmap_leaves_are, halves_right, pointer_held, reason_none, sound_parts}
 use Rattle.qx_view.proofs.AlikeLists.{all_alike, below_members, first_alike}
-use Rattle.qx_view.proofs.ImageTrees.{HasSize-image_blocks}
+use Rattle.qx_view.proofs.RoomForPointers.{tree_sized}
 use Rattle.qx_view.proofs.ReasonsAlike.{bad_long_name_alike, bit_alike, fails_dots_alike, fails_inodes_alike, fails_nodes_alike, fails_tail_alike, none_below}
 use Rattle.qx_view.proofs.TreeLocality.{place_within, tree_local}
 use Rattle.qx_view.proofs.WalkAlike.{further_agrees, outer_alike, walked_alike}
@@ -199,7 +199,8 @@ sound_back : (img other : List ℕ) (t : Tree) → length other ≡ length img �
 sound_back img other t len area super held pointers sound = sound_local other img t (sym len) (sym area) (sym super)
     (λ s names b h.
     let tree : IsTreeOf (image_blocks other s) (main_roots s) t = subst (λ x. IsTreeOf (image_blocks other x) (main_roots x) t) (same_Some sound.superblock s (sym sound.names ∙ names)) sound.tree in
-    held_back (image_blocks img s) (block_bytes other s.blocksize) (main_roots s) t (HasSize-image_blocks img s (sym super ∙ names)) tree (held s (sym super ∙ names)) b h)
+    let room : HasSize (image_blocks other s) = tree_sized (image_blocks other s) (main_roots s) t tree in
+    held_back (image_blocks img s) (block_bytes other s.blocksize) (main_roots s) t (record { size = room.size; words = room.words }) tree (held s (sym super ∙ names)) b h)
     (λ s g which tree names written apart b p. sym (pointers s g which tree (sym super ∙ names) (ap (λ n. written_geometry s n) (sym len) ∙ written) (λ e. apart (area ∙ e)) b p)) sound
 
 -- so both are sound with one tree, or neither is

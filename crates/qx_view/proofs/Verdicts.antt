@@ -10,7 +10,7 @@ use Rattle.qx_super.specs.Superblock.{Superblock}
 use Rattle.qx_view.specs.declared.reasons.Foreign.{Foreign as Why}
 use Rattle.qx_view.specs.declared.findings.Finding.{Finding}
 use Rattle.qx_view.proofs.ApartPositions.{tree_is}
-use Rattle.qx_view.proofs.ImageTrees.{HasSize-image_blocks}
+use Rattle.qx_view.proofs.RoomForPointers.{tree_sized, walk_sized}
 use Rattle.qx_view.proofs.TestsAndTree.{no_test_fails}
 use Rattle.qx_view.proofs.TreeFound.{tree_found}
 use Rattle.qx_view.specs.Images.{Roots, image_blocks, main_roots}
@@ -63,7 +63,7 @@ clean_sound img area s e =
     clear_of j.area area j.superblock s (finding_of m r) (reason_of m j.superblock j.area (length img)) (last_finding m j.superblock (length img)) j.judged in (
       j.active ∙ ap (λ a. picks.Active a) clear.0,
       j.names ∙ ap (λ x. Some x) clear.1,
-      (tree_found m r, record { area = j.area; superblock = j.superblock; active = j.active; names = j.names; tree = tree_is m r (HasSize-image_blocks img j.superblock j.names) clear.2; no_reason = clear.3; no_last = clear.4 }),
+      (tree_found m r, record { area = j.area; superblock = j.superblock; active = j.active; names = j.names; tree = tree_is m r (walk_sized m r clear.2) clear.2; no_reason = clear.3; no_last = clear.4 }),
     )
 
 -- and a sound image with this active area and superblock is clean with them
@@ -71,7 +71,7 @@ pub sound_clean : (img : List ℕ) (t : Tree) (area : Which) (s : Superblock) �
 sound_clean img t area s sound active names =
     let u : Superblock = sound.superblock in
     let m : BlockMap = image_blocks img u in
-    let none : finding_of m (main_roots u) ≡ None = no_test_fails m (main_roots u) t (HasSize-image_blocks img u sound.names) sound.tree in
+    let none : finding_of m (main_roots u) ≡ None = no_test_fails m (main_roots u) t (tree_sized m (main_roots u) t sound.tree) sound.tree in
     let same : u ≡ s = same_Some u s (sym sound.names ∙ names) in
     let which : sound.area ≡ area = (let e : picks.Active sound.area ≡ picks.Active area = sym sound.active ∙ active in cc) in
     ap (λ p. verdict_at img p) sound.active ∙ ap (λ o. verdict_with img sound.area o) sound.names
@@ -84,13 +84,13 @@ judged_foreign img why e =
     let m : BlockMap = image_blocks img j.superblock in
     let r : Roots = main_roots j.superblock in
     let clear : (finding_of m r ≡ None) × (reason_of m j.superblock j.area (length img) ≡ Some why) = foreign_of j.area j.superblock (finding_of m r) (reason_of m j.superblock j.area (length img)) (last_finding m j.superblock (length img)) why j.judged in
-    record { area = j.area; superblock = j.superblock; active = j.active; names = j.names; tree = tree_found m r; has = tree_is m r (HasSize-image_blocks img j.superblock j.names) clear.0; reason = clear.1 }
+    record { area = j.area; superblock = j.superblock; active = j.active; names = j.names; tree = tree_found m r; has = tree_is m r (walk_sized m r clear.0) clear.0; reason = clear.1 }
 
 -- and an image with a tree and a reason is foreign
 pub foreign_judged : (img : List ℕ) (why : Why) → IsForeign img why → verdict_of img ≡ Foreign why
 foreign_judged img why f =
     let m : BlockMap = image_blocks img f.superblock in
-    let none : finding_of m (main_roots f.superblock) ≡ None = no_test_fails m (main_roots f.superblock) f.tree (HasSize-image_blocks img f.superblock f.names) f.has in
+    let none : finding_of m (main_roots f.superblock) ≡ None = no_test_fails m (main_roots f.superblock) f.tree (tree_sized m (main_roots f.superblock) f.tree f.has) f.has in
     ap (λ p. verdict_at img p) f.active ∙ ap (λ o. verdict_with img f.area o) f.names
     ∙ (λ i. verdict_by f.area f.superblock (none i) (f.reason i) (last_finding m f.superblock (length img)))
 

@@ -1,11 +1,11 @@
 //! Laws of what an image means.
-ghost use Rattle.std.specs.Prelude.{◌≡◌, ◌⊎◌, ◌↔◌, ◌+◌, ◌*◌, ◌<◌, ◌≤◌, ℕ, Bool, ◌/◌, ◌%◌, IsTrue, List, [], Contains, count_by, flat_map, ◌==◌, length, Some, None};
+ghost use Rattle.std.specs.Prelude.{◌≡◌, ◌⊎◌, ◌↔◌, ◌+◌, ◌*◌, ◌<◌, ◌≤◌, ℕ, ◌/◌, ◌%◌, IsTrue, List, [], Contains, count_by, flat_map, ◌==◌, length, Some, None};
 ghost use Rattle.qx_geom.specs.declared.system.SystemTree.{SystemTree};
 ghost use Rattle.qx_geom.specs.declared.area.Which.{Which};
 ghost use Rattle.qx_geom.specs.declared.geometry.Geometry.{Geometry};
 ghost use Rattle.qx_geom.specs.Layout.{IsPointerBlock, first_block};
 ghost use Rattle.qx_geom.specs.Lists.{Distinct};
-ghost use Rattle.qx_nodes.specs.BlockMap.{BlockMap};
+ghost use Rattle.qx_nodes.specs.BlockMap.{BlockMap, with_bytes};
 ghost use Rattle.qx_nodes.specs.Content.{HasSize, levels_fit};
 ghost use Rattle.qx_geom.specs.declared.root.Root.{Root};
 ghost use Rattle.qx_records.specs.NameRecord.{Unused};
@@ -16,34 +16,30 @@ ghost use Rattle.qx_super.specs.Superblock.{Superblock};
 ghost use Rattle.qx_view.specs.declared.findings.Finding.{Finding};
 ghost use Rattle.qx_view.specs.declared.reasons.Foreign.{Foreign as Why};
 ghost use Rattle.qx_view.specs.Images.{IsInHole, Roots, all_records, block_bytes, image_blocks, main_roots, present_records, raw_of};
-ghost use Rattle.qx_view.specs.Reading.{IsHeld, IsTree, IsTreeOf};
+ghost use Rattle.qx_view.specs.Reading.{IsHeld, IsTreeOf};
 ghost use Rattle.qx_view.specs.Usage.{met_blocks};
 ghost use Rattle.qx_view.specs.Walk.{Place, finding_of, inodes_named_in, named_inode, named_inodes, record_tests, records_tests, walked_inodes};
 ghost use Rattle.qx_view.specs.Sound.{Clean, Damaged, Foreign, IsDamaged, IsForeign, IsSound, long_number, numbers_named_in, verdict_of, written_geometry};
 
-/// An image has one tree at most.
-pub fn an_image_has_one_tree()
-    ensures { (img : List ℕ) (t u : Tree) → IsTree img t → IsTree img u → t ≡ u }
+/// Roots have one tree at most.
+pub fn roots_have_one_tree()
+    ensures { (m : BlockMap) (r : Roots) (t u : Tree) → IsTreeOf m r t → IsTreeOf m r u → t ≡ u }
 {}
 
-/// Images with one active superblock that agree on each block which the tree holds have the same tree.
+/// Blocks that agree on each one which the tree holds have the same tree.
 pub fn held_blocks_decide_the_tree()
-    ensures { (img other : List ℕ) (t : Tree) → active_super other ≡ active_super img
-        → ((s : Superblock) → active_super img ≡ Some s → (b : ℕ) → IsHeld (image_blocks img s) (main_roots s) t b
-        → block_bytes img s.blocksize b ≡ block_bytes other s.blocksize b)
-        → IsTree img t → IsTree other t }
+    ensures { (m : BlockMap) (bytes : ℕ → List ℕ) (r : Roots) (t : Tree) → ((b : ℕ) → IsHeld m r t b → m.bytes b ≡ bytes b)
+        → IsTreeOf m r t → IsTreeOf (with_bytes m bytes) r t }
 {}
 
-/// Where no test of the walk fails, the image has a tree.
+/// Where no test of the walk fails, the roots have a tree.
 pub fn no_finding_means_a_tree()
-    ensures { (img : List ℕ) (s : Superblock) → active_super img ≡ Some s → finding_of (image_blocks img s) (main_roots s) ≡ None
-        → (t : Tree) × IsTree img t }
+    ensures { (m : BlockMap) (r : Roots) → finding_of m r ≡ None → (t : Tree) × IsTreeOf m r t }
 {}
 
-/// Where the image has a tree, no test of the walk fails.
+/// Where the roots have a tree, no test of the walk fails.
 pub fn a_tree_means_no_finding()
-    ensures { (img : List ℕ) (t : Tree) (s : Superblock) → active_super img ≡ Some s → IsTree img t
-        → finding_of (image_blocks img s) (main_roots s) ≡ None }
+    ensures { (m : BlockMap) (r : Roots) (t : Tree) → IsTreeOf m r t → finding_of m r ≡ None }
 {}
 
 /// A record of a directory in a leaf that isn't present is unused: it has no test, and names no inode and no long name.
@@ -72,14 +68,13 @@ pub fn the_records_of_present_leaves_say_all()
 
 /// The walk of roots that have a tree comes to each block that the tree holds, to each once, and to no other.
 pub fn the_walk_meets_the_held_blocks()
-    ensures held { (m : BlockMap) (r : Roots) (t : Tree) (b : ℕ) → HasSize m → IsTreeOf m r t
-        → Contains (met_blocks m r) b ↔ IsHeld m r t b }
-    ensures once { (m : BlockMap) (r : Roots) (t : Tree) → HasSize m → IsTreeOf m r t → Distinct (met_blocks m r) }
+    ensures held { (m : BlockMap) (r : Roots) (t : Tree) (b : ℕ) → IsTreeOf m r t → Contains (met_blocks m r) b ↔ IsHeld m r t b }
+    ensures once { (m : BlockMap) (r : Roots) (t : Tree) → IsTreeOf m r t → Distinct (met_blocks m r) }
 {}
 
 /// An inode of a tree has as many links as the records of the walk's directories that name it.
 pub fn the_walk_counts_the_links()
-    ensures { (m : BlockMap) (r : Roots) (t : Tree) (n : ℕ) → HasSize m → IsTreeOf m r t
+    ensures { (m : BlockMap) (r : Roots) (t : Tree) (n : ℕ) → IsTreeOf m r t
         → links_of t n ≡ count_by (λ i. i == n) (flat_map (named_inodes m r) (walked_inodes m r)) }
 {}
 

@@ -1,6 +1,6 @@
 -- The superblock that was chosen is valid.
 use Rattle.std.proofs.Common.{◌≡◌, ℕ, ◌+◌, ◌≤◌, inl, inr, List, sym, ◌∙◌}
-use Rattle.std.specs.Prelude.{true, Option, Some, None, Ok, option_and_then}
+use Rattle.std.specs.Prelude.{Bool, true, false, ◌==◌, if◌then◌else◌, Option, Some, None, Ok, option_and_then}
 use Rattle.std.specs.Result.{result_ok}
 use Rattle.qx_geom.specs.Layout.{is_block_size}
 use Rattle.qx_geom.specs.declared.area.Which.{Which}
@@ -11,7 +11,6 @@ use Rattle.qx_super.specs.Superblock.{Superblock, second_place_of, superblock_of
 use Rattle.qx_super.specs.declared.supers.Areas.{Areas}
 use Rattle.qx_super.specs.declared.choice.Choice.TheVariants as choices
 use Rattle.qx_super.proofs.ValidSuperblocks.{ok_of}
-use Rattle.qx_view.proofs.ImageTrees.{only_from}
 
 -- a superblock's blocks and the second superblock behind them fit a device of this length
 pub record FitsLength (s : Superblock) (len : ℕ) : Type 0 where
@@ -23,6 +22,15 @@ fits_read : (bytes : List ℕ) (len : ℕ) (s : Superblock) → result_ok (super
 fits_read bytes len s e =
     let valid : superblock_of bytes len ≡ Ok s = ok_of (superblock_of bytes len) s e in
     record { sized = valid-blocksize bytes len s valid; room = valid-room bytes len s valid }
+
+-- a superblock that counts where it says that it stands is one
+only_from : (place : ℕ) (o : Option Superblock) (s : Superblock) → only_at place o ≡ Some s → o ≡ Some s
+only_from place None s e = e
+only_from place (Some x) s e = go (second_place_of x == place) e
+  where
+    go : (b : Bool) → (if b then Some x else None) ≡ Some s → Some x ≡ Some s
+    go true e = e
+    go false e = absurd (cc)
 
 -- the bytes of the second area, wherever it was looked for
 fits_second : (place : Option ℕ) (bytes : List ℕ) (len : ℕ) (s : Superblock) → option_and_then (λ p. only_at p (result_ok (superblock_of bytes len))) place ≡ Some s → FitsLength s len

@@ -5,6 +5,7 @@ use Rattle.qx_blockset.specs.Members.{count_of, limit_of}
 use Rattle.qx_geom.specs.declared.area.Which.{Which}
 use Rattle.qx_geom.specs.declared.geometry.Geometry.{Geometry}
 use Rattle.qx_nodes.specs.BlockMap.{BlockMap}
+use Rattle.qx_nodes.specs.Content.{HasSize}
 use Rattle.qx_outside.specs.Outside.{Outside}
 use Rattle.qx_outside.specs.Trail.{bytes_of}
 use Rattle.qx_pointers.specs.declared.halt.Halt.{Halt}
@@ -17,7 +18,7 @@ use Rattle.qx_super.specs.Superblock.{Superblock}
 use Rattle.qx_super.specs.declared.choice.Pick.TheVariants as picks
 use Rattle.qx_view.specs.declared.findings.Finding.{Finding}
 use Rattle.qx_view.specs.declared.reasons.Foreign.{Foreign as Why}
-use Rattle.qx_view.proofs.ImageTrees.{HasSize-image_blocks}
+use Rattle.qx_view.proofs.RoomForPointers.{walk_sized}
 use Rattle.qx_view.specs.Images.{block_bytes, image_blocks, main_roots}
 use Rattle.qx_view.specs.Sound.{Damaged, last_with, reason_with, verdict_of, written_geometry}
 use Rattle.qx_view.specs.Usage.{met_blocks}
@@ -56,7 +57,8 @@ module _ (img : List ℕ) (which : Which) (s : Superblock) (active : active_area
     met_length : limit_of w.met ≡ s.num_blocks → count_of w.met ≡ length (met_blocks (image_blocks img s) (main_roots s))
     met_length limit =
         let m : BlockMap = image_blocks img s in
-        count_marked w.met (met_blocks m (main_roots s)) is.met (met_differ m s (HasSize-image_blocks img s names) is.none) (λ b h. omega (arith, limit, met_counted m s (HasSize-image_blocks img s names) is.none b h))
+        let room : HasSize m = walk_sized m (main_roots s) is.none in
+        count_marked w.met (met_blocks m (main_roots s)) is.met (met_differ m s room is.none) (λ b h. omega (arith, limit, met_counted m s room is.none b h))
 
     -- the verdict, by the first reason that applies
     verdict_is : (why : Option Why) → why ≡ reason_with (image_blocks img s) s which geometry → (why ≡ None → last_with (image_blocks img s) s geometry ≡ None)
