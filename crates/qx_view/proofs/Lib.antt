@@ -27,3 +27,4 @@ pub mod SoundLocality
 pub mod SoundPlaces
 pub mod SmallImages
 pub mod RoomForPointers
+pub mod ReachedInodes

@@ -19,7 +19,7 @@ use Rattle.qx_view.specs.Reading.{IsHeld, IsTreeOf, StandsAt}
 use Rattle.qx_view.specs.Usage.{met_blocks}
 
 -- numbers that differ stand at one place each
-differ_distinct : (xs : List ℕ) → all_differ xs ≡ true → Distinct xs
+pub differ_distinct : (xs : List ℕ) → all_differ xs ≡ true → Distinct xs
 differ_distinct [] e = tt
 differ_distinct (x ∷ xs) e = (
   λ c. true_or_false (is_in xs x) (in_Contains xs x c) (not_true (is_in xs x) (and_left (not (is_in xs x)) (all_differ xs) e)),

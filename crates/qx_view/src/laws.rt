@@ -9,7 +9,7 @@ ghost use Rattle.qx_nodes.specs.BlockMap.{BlockMap, with_bytes};
 ghost use Rattle.qx_nodes.specs.Content.{HasSize, levels_fit};
 ghost use Rattle.qx_geom.specs.declared.root.Root.{Root};
 ghost use Rattle.qx_records.specs.NameRecord.{Unused};
-ghost use Rattle.qx_model.specs.Tree.{Tree, links_of};
+ghost use Rattle.qx_model.specs.Tree.{Reached, Tree, links_of};
 ghost use Rattle.qx_super.specs.declared.choice.Pick.TheVariants as picks;
 ghost use Rattle.qx_super.specs.Active.{active_area, active_super};
 ghost use Rattle.qx_super.specs.Superblock.{Superblock};
@@ -70,6 +70,12 @@ pub fn the_records_of_present_leaves_say_all()
 pub fn the_walk_meets_the_held_blocks()
     ensures held { (m : BlockMap) (r : Roots) (t : Tree) (b : ℕ) → IsTreeOf m r t → Contains (met_blocks m r) b ↔ IsHeld m r t b }
     ensures once { (m : BlockMap) (r : Roots) (t : Tree) → IsTreeOf m r t → Distinct (met_blocks m r) }
+{}
+
+/// And to each inode that the tree reaches, to each once, and to no other.
+pub fn the_walk_comes_to_the_reached_inodes()
+    ensures reached { (m : BlockMap) (r : Roots) (t : Tree) (n : ℕ) → IsTreeOf m r t → Contains (walked_inodes m r) n ↔ Reached t n }
+    ensures once { (m : BlockMap) (r : Roots) (t : Tree) → IsTreeOf m r t → Distinct (walked_inodes m r) }
 {}
 
 /// An inode of a tree has as many links as the records of the walk's directories that name it.

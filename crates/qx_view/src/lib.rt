@@ -34,6 +34,7 @@ pub use laws::{
     roots_have_one_tree,
     the_active_half_is_held,
     the_records_of_present_leaves_say_all,
+    the_walk_comes_to_the_reached_inodes,
     the_walk_counts_the_links,
     the_walk_meets_the_held_blocks,
     what_soundness_depends_on,
