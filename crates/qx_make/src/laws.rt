@@ -8,11 +8,13 @@ ghost use Rattle.qx_geom.specs.declared.geometry.Geometry.{Geometry};
 ghost use Rattle.qx_geom.specs.Layout.{IsGeometry, geometry_of, numbers_of};
 ghost use Rattle.qx_nodes.specs.BlockMap.{BlockMap};
 ghost use Rattle.qx_model.specs.EmptyTree.{empty_tree};
-ghost use Rattle.qx_view.specs.Examples.{empty_tree as tree_by_hand, made_blocks, made_super};
+ghost use Rattle.qx_view.specs.Examples.{made_blocks, made_super};
 ghost use Rattle.qx_view.specs.Reading.{IsTreeOf};
+ghost use Rattle.qx_view.specs.SmallImage.{first_bytes, second_bytes};
 ghost use Rattle.qx_view.specs.Sound.{IsSound, last_finding, reason_of};
 ghost use Rattle.qx_make.specs.Blocks.{AreMade, made_block_bytes};
 ghost use Rattle.qx_make.specs.NewVolume.{HasNewVolume, made_superblock, new_roots};
+ghost use Rattle.qx_make.specs.Superblocks.{made_super_bytes};
 
 /// What the maker writes means the empty tree, from the roots of either half.
 pub fn a_new_volume_has_the_empty_tree()
@@ -36,12 +38,13 @@ pub fn a_new_volume_is_sound()
         → IsSound img (empty_tree g.blocksize g.num_inodes moment) }
 {}
 
-/// A volume of 65536 bytes with 16 inodes that was written by hand for the checker is one that the maker makes.
+/// A volume of 65536 bytes with 16 inodes that was written by hand for the checker is the one that the maker makes at that moment, block by block and both superblocks.
 pub fn the_volume_by_hand_is_a_new_one()
     ensures geometry { IsGeometry (numbers_of 65536 512 16) }
-    ensures blocks { AreMade (numbers_of 65536 512 16) orders.Little 0 made_blocks }
+    ensures blocks { AreMade (numbers_of 65536 512 16) orders.Little 1000 made_blocks }
     ensures superblock { made_superblock (numbers_of 65536 512 16) orders.Little 1000 2 areas.Second ≡ made_super }
-    ensures tree { empty_tree 512 16 0 ≡ tree_by_hand }
+    ensures first { made_super_bytes (numbers_of 65536 512 16) orders.Little 1000 areas.First ≡ first_bytes }
+    ensures second { made_super_bytes (numbers_of 65536 512 16) orders.Little 1000 areas.Second ≡ second_bytes }
 {}
 
 /// Bytes that a script computed from the format's tables: 252 blocks of 4096 bytes in big order with 256 inodes, and an Inode tree of 17 leaves below a pointer block.

@@ -9,6 +9,7 @@ use Rattle.qx_geom.specs.Lists.{each_below}
 use Rattle.qx_geom.specs.declared.area.Which.{Which}
 use Rattle.qx_geom.specs.declared.area.Which.TheVariants.{First, Second}
 use Rattle.qx_geom.specs.declared.geometry.Geometry.{Geometry}
+use Rattle.qx_model.specs.EmptyTree.{empty_tree}
 use Rattle.qx_nodes.specs.BlockMap.{with_bytes}
 use Rattle.qx_nodes.specs.Content.{HasSize}
 use Rattle.qx_nodes.specs.Leaves.{leaves_below}
@@ -24,7 +25,7 @@ use Rattle.qx_view.proofs.ApartPositions.{tree_is}
 use Rattle.qx_view.proofs.SoundLocality.{last_alike, reasons_alike}
 use Rattle.qx_view.proofs.TreeFound.{tree_found}
 use Rattle.qx_view.proofs.TreeLocality.{tree_local}
-use Rattle.qx_view.specs.Examples.{empty_tree, made_block, made_blocks, made_super}
+use Rattle.qx_view.specs.Examples.{made_block, made_blocks, made_super, made_tree}
 use Rattle.qx_view.specs.Images.{block_bytes, image_blocks, main_roots}
 use Rattle.qx_view.specs.Reading.{IsHeld, IsTreeOf}
 use Rattle.qx_view.specs.SmallImage.{changed, first_bytes, image_with, made_bytes, made_first, second_bytes, small_image, zeros}
@@ -41,7 +42,7 @@ small = numbers_of 65536 512 16
 
 -- what is known of the volume by its superblock and its area
 record IsSmall (which : Which) (s : Superblock) : Type 0 where
-  pub tree : IsTreeOf made_blocks (main_roots s) empty_tree
+  pub tree : IsTreeOf made_blocks (main_roots s) made_tree
   pub geometry : written_geometry s 65536 ≡ Some small
   pub none : first_some (reasons_in made_blocks s small which (main_roots s) (outer_blocks made_blocks (main_roots s)) (walked_inodes made_blocks (main_roots s))) ≡ None
   pub last : last_with made_blocks s (Some small) ≡ None
@@ -56,22 +57,22 @@ pub record HasBlocks (img : List ℕ) (which : Which) (s : Superblock) : Type 0 
   pub same : list_all (λ b. bytes_eq (block_bytes img 512 b) (made_block b)) (each_below 96 (λ b. b)) ≡ true
 
 -- such an image is sound
-small_sound : (img : List ℕ) (which : Which) (s : Superblock) → IsSmall which s → HasBlocks img which s → IsSound img empty_tree
+small_sound : (img : List ℕ) (which : Which) (s : Superblock) → IsSmall which s → HasBlocks img which s → IsSound img made_tree
 unfolding levels_for
 small_sound img which s is has =
     let bytes : ℕ → List ℕ = block_bytes img 512 in
-    let held : (b : ℕ) → IsHeld made_blocks (main_roots s) empty_tree b → made_blocks.bytes b ≡ bytes b = λ b h.
+    let held : (b : ℕ) → IsHeld made_blocks (main_roots s) made_tree b → made_blocks.bytes b ≡ bytes b = λ b h.
     let below : b < 96 = subst (λ z. z < 96) h.3 (is.tree.undamaged h.0 h.1 h.2) in
     sym ((bytes_eq-Decides (bytes b) (made_block b)).0 (below_all (λ b. bytes_eq (bytes b) (made_block b)) 96 b has.same below)) in
     let no_reason : reason_with (with_bytes made_blocks bytes) s which (Some small) ≡ None =
-    reasons_alike made_blocks bytes s empty_tree has_size is.tree held small which (omega arith) (is.leaves ∙ refl) no_pointers is.none in
-    let no_last : last_with (with_bytes made_blocks bytes) s (Some small) ≡ None = sym (last_alike made_blocks bytes s empty_tree has_size is.tree held (Some small)) ∙ is.last in
+    reasons_alike made_blocks bytes s made_tree has_size is.tree held small which (omega arith) (is.leaves ∙ refl) no_pointers is.none in
+    let no_last : last_with (with_bytes made_blocks bytes) s (Some small) ≡ None = sym (last_alike made_blocks bytes s made_tree has_size is.tree held (Some small)) ∙ is.last in
     record {
       area = which;
       superblock = s;
       active = has.active;
       names = has.names;
-      tree = subst (λ m. IsTreeOf m (main_roots s) empty_tree) (sym has.shape) (tree_local made_blocks bytes (main_roots s) empty_tree has_size is.tree held);
+      tree = subst (λ m. IsTreeOf m (main_roots s) made_tree) (sym has.shape) (tree_local made_blocks bytes (main_roots s) made_tree has_size is.tree held);
       no_reason = (λ i. reason_of (has.shape i) s which (has.long i)) ∙ ap (reason_with (with_bytes made_blocks bytes) s which) is.geometry ∙ no_reason;
       no_last = (λ i. last_finding (has.shape i) s (has.long i)) ∙ ap (last_with (with_bytes made_blocks bytes) s) is.geometry ∙ no_last;
     }
@@ -88,8 +89,8 @@ unfolding field fields inode_in kind_of raw_in levels_for tree_blocks pointer_bl
 whole_second = refl
 
 -- its tree
-found_second : tree_found made_blocks (main_roots made_super) ≡ empty_tree
-unfolding field fields inode_in kind_of raw_in levels_for tree_blocks pointer_blocks geometry_of system_root_of
+found_second : tree_found made_blocks (main_roots made_super) ≡ made_tree
+unfolding field fields inode_in kind_of raw_in levels_for tree_blocks pointer_blocks geometry_of system_root_of empty_tree
 found_second = refl
 
 -- what is known of it
@@ -109,8 +110,8 @@ unfolding field fields inode_in kind_of raw_in levels_for tree_blocks pointer_bl
 whole_first = refl
 
 -- its tree
-found_first : tree_found made_blocks (main_roots made_first) ≡ empty_tree
-unfolding field fields inode_in kind_of raw_in levels_for tree_blocks pointer_blocks geometry_of system_root_of
+found_first : tree_found made_blocks (main_roots made_first) ≡ made_tree
+unfolding field fields inode_in kind_of raw_in levels_for tree_blocks pointer_blocks geometry_of system_root_of empty_tree
 found_first = refl
 
 -- what is known of it
@@ -132,7 +133,7 @@ unfolding image_with first_bytes second_bytes made_bytes zeros checksum_of divid
 whole = record { long = refl; active = refl; names = refl; shape = refl; same = refl }
 
 -- so it is sound
-pub whole-sound : IsSound small_image empty_tree
+pub whole-sound : IsSound small_image made_tree
 whole-sound = small_sound small_image Second made_super is_second whole
 
 -- so has the image whose first superblock is changed
@@ -141,7 +142,7 @@ unfolding image_with first_bytes second_bytes made_bytes zeros checksum_of divid
 first_changed = record { long = refl; active = refl; names = refl; shape = refl; same = refl }
 
 -- so it is sound
-pub first_changed-sound : IsSound (image_with (changed first_bytes) second_bytes) empty_tree
+pub first_changed-sound : IsSound (image_with (changed first_bytes) second_bytes) made_tree
 first_changed-sound = small_sound (image_with (changed first_bytes) second_bytes) Second made_super is_second first_changed
 
 -- and that whose second is
@@ -150,5 +151,5 @@ unfolding image_with first_bytes second_bytes made_bytes zeros checksum_of divid
 second_changed = record { long = refl; active = refl; names = refl; shape = refl; same = refl }
 
 -- so it is sound
-pub second_changed-sound : IsSound (image_with first_bytes (changed second_bytes)) empty_tree
+pub second_changed-sound : IsSound (image_with first_bytes (changed second_bytes)) made_tree
 second_changed-sound = small_sound (image_with first_bytes (changed second_bytes)) First made_first is_first second_changed

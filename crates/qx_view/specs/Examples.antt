@@ -1,13 +1,14 @@
 -- Small volumes on which the definitions are computed.
-use Rattle.std.specs.Prelude.{ℕ, ◌+◌, ◌-◌, ◌*◌, ◌^◌, List, [], ◌∷◌, ◌++◌, flat_map, length, replicate, ◌==◌, ◌||◌, if◌then◌else◌, Option, Some, None}
+use Rattle.std.specs.Prelude.{ℕ, ◌+◌, ◌-◌, ◌*◌, ◌^◌, List, [], ◌∷◌, ◌++◌, flat_map, length, replicate, ◌==◌, ◌||◌, if◌then◌else◌, Option, Some}
 use Rattle.std.specs.List.{range_with_len}
 use Rattle.qx_fields.specs.declared.order.Order.{Order}
 use Rattle.qx_fields.specs.declared.order.Order.TheVariants.{Little}
-use Rattle.qx_fields.specs.Number.{digits}
+use Rattle.qx_fields.specs.Number.{all_digits, digits}
 use Rattle.qx_geom.specs.declared.area.Which.TheVariants.{Second}
 use Rattle.qx_geom.specs.declared.root.Root.{Root}
 use Rattle.qx_geom.specs.Pointer.{absent}
-use Rattle.qx_model.specs.Tree.{Directory, Unused, Row, Tree}
+use Rattle.qx_model.specs.EmptyTree.{empty_tree}
+use Rattle.qx_model.specs.Tree.{Tree}
 use Rattle.qx_nodes.specs.BlockMap.{BlockMap}
 use Rattle.qx_super.specs.Superblock.{Superblock}
 use Rattle.qx_view.specs.declared.findings.Code.{Code}
@@ -34,10 +35,10 @@ foreign_for reason at = Some (record { reason = reason; at = at })
 abbrev pub filled : ℕ → List ℕ → List ℕ
 filled count bytes = bytes ++ replicate (count - length bytes) 0
 
--- an inode of this size, mode, levels and status, whose first pointers are these
+-- an inode of this size, mode, levels and status, whose first pointers are these; its owner and group are 0, and its four times 1000
 abbrev pub inode_bytes_in : Order → ℕ → ℕ → ℕ → ℕ → List ℕ → List ℕ
 inode_bytes_in order size mode levels status pointers =
-    filled 128 (digits order 8 size ++ replicate 24 0 ++ digits order 2 mode ++ 0 ∷ 0 ∷ []
+    filled 128 (digits order 8 size ++ replicate 8 0 ++ all_digits order 4 (replicate 4 1000) ++ digits order 2 mode ++ 0 ∷ 0 ∷ []
     ++ flat_map (λ p. digits order 4 p) pointers ++ replicate (64 - 4 * length pointers) 255 ++ levels ∷ status ∷ [])
 
 -- the same in little order
@@ -113,7 +114,7 @@ chain = blocks_of 8 (λ b. flat_map (λ w. digits Little 4 (b + 1)) (range_with_
 abbrev pub chained : ℕ → Root
 chained levels = record { size = 2 ^ 48; pointers = 1 ∷ replicate 14 absent ++ 1 ∷ []; levels = levels }
 
--- ---- what the maker writes on a device of 65536 bytes: 96 blocks, halves of 5 blocks, and the top directory in block 10
+-- ---- what the maker writes at the moment 1000 on a device of 65536 bytes: 96 blocks, halves of 5 blocks, and the top directory in block 10
 
 -- a bitmap with this second byte
 abbrev pub bitmap_bytes : ℕ → List ℕ
@@ -161,18 +162,8 @@ made_super = record {
 }
 
 -- its tree: the top directory alone, with its two rows
-abbrev pub empty_tree : Tree
-empty_tree = record {
-  inodes = Some (record {
-    attr = record { mode = 0x41ED; uid = 0; gid = 0; ftime = 0; mtime = 0; atime = 0; ctime = 0 };
-    size = 512;
-    present = 0 ∷ [];
-    body = Directory (Row 1 (46 ∷ []) None ∷ Row 1 (46 ∷ 46 ∷ []) None ∷ replicate 14 Unused) 1;
-  }) ∷ replicate 15 None;
-  long_size = 0;
-  long_names = [];
-  long_present = [];
-}
+abbrev pub made_tree : Tree
+made_tree = empty_tree 512 16 1000
 
 -- the finding of the walk of these blocks, with its superblock
 abbrev pub finding_in : BlockMap → Option Finding

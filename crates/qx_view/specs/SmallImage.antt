@@ -1,4 +1,4 @@
--- The small volume byte by byte: what the maker writes on a device of 65536 bytes.
+-- The small volume byte by byte: what the maker writes at the moment 1000 on a device of 65536 bytes.
 use Rattle.std.specs.Prelude.{ℕ, List, ◌∷◌, ◌++◌, drop, flat_map, replicate, take}
 use Rattle.qx_fields.specs.Number.{digits}
 use Rattle.qx_fields.specs.declared.order.Order.TheVariants.{Little}
@@ -9,16 +9,16 @@ use Rattle.qx_super.specs.Superblock.{Superblock}
 use Rattle.qx_view.specs.Examples.{made_block, made_super, one_pointer}
 
 -- a root node
-abbrev pub root_bytes : Root → List ℕ
-root_bytes node = digits Little 8 node.size ++ flat_map (λ p. digits Little 4 p) node.pointers ++ node.levels ∷ replicate 7 0
+abbrev pub root_by_hand : Root → List ℕ
+root_by_hand node = digits Little 8 node.size ++ flat_map (λ p. digits Little 4 p) node.pointers ++ node.levels ∷ replicate 7 0
 
 -- a superblock with this checksum
-abbrev pub super_bytes : ℕ → Superblock → List ℕ
-super_bytes sum s =
+abbrev pub super_by_hand : ℕ → Superblock → List ℕ
+super_by_hand sum s =
     digits Little 4 0x68191122 ++ digits Little 4 sum ++ digits Little 8 s.serial ++ digits Little 4 s.ctime ++ digits Little 4 s.atime ++ replicate 4 0
     ++ digits Little 2 s.version1 ++ replicate 2 0 ++ s.volume_id ++ digits Little 4 s.blocksize ++ digits Little 4 s.num_inodes ++ digits Little 4 s.free_inodes
-    ++ digits Little 4 s.num_blocks ++ digits Little 4 s.free_blocks ++ replicate 4 0 ++ root_bytes s.inode ++ root_bytes s.bitmap ++ root_bytes s.longfile
-    ++ root_bytes s.fourth ++ replicate 120 0
+    ++ digits Little 4 s.num_blocks ++ digits Little 4 s.free_blocks ++ replicate 4 0 ++ root_by_hand s.inode ++ root_by_hand s.bitmap ++ root_by_hand s.longfile
+    ++ root_by_hand s.fourth ++ replicate 120 0
 
 -- the superblock of the first area: an earlier serial, and the trees of the first half
 abbrev pub made_first : Superblock
@@ -30,11 +30,11 @@ made_first = record made_super {
 
 -- the first area's superblock, with the checksum that an independent maker wrote
 unfoldable pub first_bytes : List ℕ
-first_bytes = super_bytes 0x7442D465 made_first
+first_bytes = super_by_hand 0x7442D465 made_first
 
 -- the second area's, with a checksum from a program of a few lines, apart from this one
 unfoldable pub second_bytes : List ℕ
-second_bytes = super_bytes 0xDAE951C0 made_super
+second_bytes = super_by_hand 0xDAE951C0 made_super
 
 -- bytes 0
 unfoldable pub zeros : ℕ → List ℕ

@@ -12,7 +12,7 @@ ghost use Rattle.qx_view.specs.Reading.{IsTreeOf};
 ghost use Rattle.qx_view.specs.Walk.{finding_of, walked_inodes};
 ghost use Rattle.qx_view.specs.Sound.{reason_of};
 ghost use Rattle.qx_view.specs.Usage.{foreign_usage, sound_usage};
-ghost use Rattle.qx_view.specs.Examples.{bitmap_bytes, chain, chained, directory_bytes, dots_bytes, empty_tree, filled, finding_in, foreign_for, found, inode_bytes_with, last_in, long_roots, made_blocks, made_but, made_super, one_file, one_pointer, reason_in, row_bytes, small_roots, two_directories, vast_directory, with_long_row, with_rows, with_second, with_top};
+ghost use Rattle.qx_view.specs.Examples.{bitmap_bytes, chain, chained, directory_bytes, dots_bytes, filled, finding_in, foreign_for, found, inode_bytes_with, last_in, long_roots, made_blocks, made_but, made_super, made_tree, one_file, one_pointer, reason_in, row_bytes, small_roots, two_directories, vast_directory, with_long_row, with_rows, with_second, with_top};
 
 /// The numbers that are printed of the tests of the walk.
 pub fn the_numbers_of_codes()
@@ -212,7 +212,7 @@ pub fn the_last_findings_of_changed_volumes()
 
 /// What the maker writes has the empty tree and is clean, with the second area's half and no other.
 pub fn a_new_volume_is_clean()
-    ensures empty { IsTreeOf made_blocks (main_roots made_super) empty_tree }
+    ensures empty { IsTreeOf made_blocks (main_roots made_super) made_tree }
     ensures whole { finding_in made_blocks ≡ None }
     ensures ours { reason_in made_blocks made_super ≡ None }
     ensures other_half { reason_of made_blocks made_super areas.First 65536 ≡ foreign_for reasons.Halves 0 }

@@ -1,9 +1,9 @@
-//! Whole images, byte by byte: what the maker writes on a device of 65536 bytes, and what changed superblocks make of it.
+//! Whole images, byte by byte: what the maker writes at the moment 1000 on a device of 65536 bytes, and what changed superblocks make of it.
 ghost use Rattle.std.specs.Prelude.{◌≡◌, length, take, Some};
 ghost use Rattle.qx_geom.specs.declared.area.Which.TheVariants as areas;
 ghost use Rattle.qx_super.specs.declared.choice.Pick.TheVariants as picks;
 ghost use Rattle.qx_super.specs.Active.{active_area, active_super};
-ghost use Rattle.qx_view.specs.Examples.{empty_tree, made_super};
+ghost use Rattle.qx_view.specs.Examples.{made_super, made_tree};
 ghost use Rattle.qx_view.specs.SmallImage.{changed, first_bytes, image_with, made_first, second_bytes, small_image};
 ghost use Rattle.qx_view.specs.Sound.{Clean, IsSound, NoVolume, verdict_of};
 
@@ -12,7 +12,7 @@ pub fn the_small_image_is_clean()
     ensures length { length small_image ≡ 65536 }
     ensures active { active_area small_image ≡ picks.Active areas.Second }
     ensures superblock { active_super small_image ≡ Some made_super }
-    ensures sound { IsSound small_image empty_tree }
+    ensures sound { IsSound small_image made_tree }
     ensures clean { verdict_of small_image ≡ Clean areas.Second made_super }
 {}
 
@@ -20,10 +20,10 @@ pub fn the_small_image_is_clean()
 pub fn the_small_image_with_changed_superblocks()
     ensures first { verdict_of (image_with (changed first_bytes) second_bytes)
         ≡ Clean areas.Second made_super }
-    ensures first_tree { IsSound (image_with (changed first_bytes) second_bytes) empty_tree }
+    ensures first_tree { IsSound (image_with (changed first_bytes) second_bytes) made_tree }
     ensures second { verdict_of (image_with first_bytes (changed second_bytes))
         ≡ Clean areas.First made_first }
-    ensures second_tree { IsSound (image_with first_bytes (changed second_bytes)) empty_tree }
+    ensures second_tree { IsSound (image_with first_bytes (changed second_bytes)) made_tree }
     ensures both { verdict_of (image_with (changed first_bytes) (changed second_bytes)) ≡ NoVolume }
 {}
 

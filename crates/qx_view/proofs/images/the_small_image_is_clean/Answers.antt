@@ -1,7 +1,7 @@
 use Rattle.qx_geom.specs.declared.area.Which.TheVariants.{Second}
 use Rattle.qx_view.proofs.SmallImages.{whole, whole-sound}
 use Rattle.qx_view.proofs.Verdicts.{sound_clean}
-use Rattle.qx_view.specs.Examples.{empty_tree, made_super}
+use Rattle.qx_view.specs.Examples.{made_super, made_tree}
 use Rattle.qx_view.specs.SmallImage.{small_image}
 use Rattle.qx_view.proofs.images.the_small_image_is_clean.Goals as goal
 
@@ -18,4 +18,4 @@ pub returns-clause-sound : goal.returns-clause-sound
 returns-clause-sound c = whole-sound
 
 pub returns-clause-clean : goal.returns-clause-clean
-returns-clause-clean c = sound_clean small_image empty_tree Second made_super whole-sound whole.active whole.names
+returns-clause-clean c = sound_clean small_image made_tree Second made_super whole-sound whole.active whole.names
