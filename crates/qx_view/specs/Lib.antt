@@ -10,4 +10,5 @@ pub mod Sound
 pub mod Usage
 pub mod Examples
 pub mod SmallImage
+pub mod KindsImage
 pub mod FalseSuperblocks
