@@ -28,3 +28,4 @@ pub mod SoundPlaces
 pub mod SmallImages
 pub mod RoomForPointers
 pub mod ReachedInodes
+pub mod ImageParts

@@ -30,6 +30,7 @@ use Rattle.qx_records.specs.InodeRecord.{inode_in}
 use Rattle.qx_super.specs.Active.{active_area, active_super}
 use Rattle.qx_super.specs.Superblock.{Superblock}
 use Rattle.qx_super.specs.declared.choice.Pick.TheVariants as picks
+use Rattle.qx_view.specs.declared.reasons.Foreign.{Foreign as Why}
 use Rattle.qx_view.specs.declared.reasons.Reason.TheVariants as reasons
 use Rattle.qx_view.proofs.ActiveHalf.{SoundParts, bitmap_leaves_are, halves_right, pointer_held, reason_none, sound_parts}
 use Rattle.qx_view.proofs.AlikeLists.{all_alike, below_members, first_alike}
@@ -77,18 +78,52 @@ each_none (None ∷ os) zero o e at = cc
 each_none (None ∷ os) (suc k) o e at = each_none os k o e at
 each_none (Some x ∷ os) k o e at = absurd (cc)
 
+-- the first of two that is there is the first of more
+first_of_two : {A : Type 0} (a b : Option A) (os : List (Option A)) (x : A) → first_some (a ∷ b ∷ []) ≡ Some x → first_some (a ∷ b ∷ os) ≡ Some x
+first_of_two (Some y) b os x e = e
+first_of_two None (Some y) os x e = e
+first_of_two None None os x e = absurd (cc)
+
 module _ (m : BlockMap) (bytes : ℕ → List ℕ) (s : Superblock) (t : Tree) (size : HasSize m) (is : IsTreeOf m (main_roots s) t) (held : (b : ℕ) → IsHeld m (main_roots s) t b → m.bytes b ≡ bytes b) where
+  -- the halves are laid out alike
+  laid_out_alike : (g : Geometry) (which : Which) → ((h : Which) → has_system_trees m g h ≡ has_system_trees (with_bytes m bytes) g h)
+      → (is_laid_out m s g which && list_all (λ b. nat_le (2 * g.half) b) (outer_blocks m (main_roots s))) ≡ (is_laid_out (with_bytes m bytes) s g which && list_all (λ b. nat_le (2 * g.half) b) (outer_blocks m (main_roots s)))
+  laid_out_alike g which halves = λ i. (is_same_root s.bitmap (system_root_of g which trees.Bitmap) && (is_same_root s.inode (system_root_of g which trees.Inodes) && (halves First i && halves Second i))) && list_all (λ b. nat_le (2 * g.half) b) (outer_blocks m (main_roots s))
+
+  -- and the same bit differs first
+  bits_alike : (g : Geometry) → leaves_below m s.bitmap ≡ g.bitmap_leaves
+      → first_below (bit_differs m s.bitmap g (outer_blocks m (main_roots s))) (g.bitmap_leaves * m.size * 8) ≡ first_below (bit_differs (with_bytes m bytes) s.bitmap g (outer_blocks m (main_roots s))) (g.bitmap_leaves * m.size * 8)
+  bits_alike g leaves =
+      let bitmap = further_agrees m bytes (main_roots s) t size is held 0 s.bitmap refl (and_left _ _ (and_left _ _ is.further_fit)) in
+      first_alike _ _ (g.bitmap_leaves * m.size * 8) (λ b low. bit_alike m bytes (main_roots s) t size is held s.bitmap g (outer_blocks m (main_roots s)) b bitmap
+      (subst (λ n. b / 8 / m.size < n) (sym leaves) (div_below (b / 8) m.size g.bitmap_leaves size.size (div_below b 8 (g.bitmap_leaves * m.size) (omega arith) low))))
+
+  -- the reasons are asked of the same blocks and inodes
+  reasons_of_same : (g : Geometry) (which : Which) → first_some (reasons_in (with_bytes m bytes) s g which (main_roots s) (outer_blocks m (main_roots s)) (walked_inodes m (main_roots s)))
+      ≡ first_some (reasons_in (with_bytes m bytes) s g which (main_roots s) (outer_blocks (with_bytes m bytes) (main_roots s)) (walked_inodes (with_bytes m bytes) (main_roots s)))
+  reasons_of_same g which = λ i. first_some (reasons_in (with_bytes m bytes) s g which (main_roots s) (outer_alike m bytes (main_roots s) t size is held i) (walked_alike m bytes (main_roots s) t size is held i))
+
+  -- where the halves or the bitmap are a reason, they are the same one
+  pub halves_or_bitmap_alike : (g : Geometry) (which : Which) (why : Why) → leaves_below m s.bitmap ≡ g.bitmap_leaves → ((h : Which) → has_system_trees m g h ≡ has_system_trees (with_bytes m bytes) g h)
+      → first_some (reason_at reasons.Halves (if is_laid_out m s g which && list_all (λ b. nat_le (2 * g.half) b) (outer_blocks m (main_roots s)) then None else Some 0)
+      ∷ reason_at reasons.Bitmap (first_below (bit_differs m s.bitmap g (outer_blocks m (main_roots s))) (g.bitmap_leaves * m.size * 8)) ∷ []) ≡ Some why
+      → first_some (reasons_in (with_bytes m bytes) s g which (main_roots s) (outer_blocks (with_bytes m bytes) (main_roots s)) (walked_inodes (with_bytes m bytes) (main_roots s))) ≡ Some why
+  halves_or_bitmap_alike g which why leaves halves two =
+      sym (reasons_of_same g which) ∙ first_of_two _ _ _ why (sym same ∙ two)
+    where
+      same : first_some (reason_at reasons.Halves (if is_laid_out m s g which && list_all (λ b. nat_le (2 * g.half) b) (outer_blocks m (main_roots s)) then None else Some 0)
+          ∷ reason_at reasons.Bitmap (first_below (bit_differs m s.bitmap g (outer_blocks m (main_roots s))) (g.bitmap_leaves * m.size * 8)) ∷ [])
+          ≡ first_some (reason_at reasons.Halves (if is_laid_out (with_bytes m bytes) s g which && list_all (λ b. nat_le (2 * g.half) b) (outer_blocks m (main_roots s)) then None else Some 0)
+          ∷ reason_at reasons.Bitmap (first_below (bit_differs (with_bytes m bytes) s.bitmap g (outer_blocks m (main_roots s))) (g.bitmap_leaves * m.size * 8)) ∷ [])
+      same = λ i. first_some (reason_at reasons.Halves (if laid_out_alike g which halves i then None else Some 0) ∷ reason_at reasons.Bitmap (bits_alike g leaves i) ∷ [])
+
   -- no reason applies, where none does and the words of both halves are the same
   pub reasons_alike : (g : Geometry) (which : Which) → 64 ≤ m.size → leaves_below m s.bitmap ≡ g.bitmap_leaves → ((h : Which) → has_system_trees m g h ≡ has_system_trees (with_bytes m bytes) g h)
       → first_some (reasons_in m s g which (main_roots s) (outer_blocks m (main_roots s)) (walked_inodes m (main_roots s))) ≡ None → first_some (reasons_in (with_bytes m bytes) s g which (main_roots s) (outer_blocks (with_bytes m bytes) (main_roots s)) (walked_inodes (with_bytes m bytes) (main_roots s))) ≡ None
   reasons_alike g which large leaves halves none =
       let nodes : first_below (fails_nodes m (main_roots s) (walked_inodes m (main_roots s))) (inode_places (main_roots s) + 1) ≡ None = reason_none reasons.Nodes (first_below (fails_nodes m (main_roots s) (walked_inodes m (main_roots s))) (inode_places (main_roots s) + 1)) (each_none (reasons_in m s g which (main_roots s) (outer_blocks m (main_roots s)) (walked_inodes m (main_roots s))) 2 _ none refl) in
-      let e2 : (is_laid_out m s g which && list_all (λ b. nat_le (2 * g.half) b) (outer_blocks m (main_roots s))) ≡ (is_laid_out (with_bytes m bytes) s g which && list_all (λ b. nat_le (2 * g.half) b) (outer_blocks m (main_roots s))) =
-      λ i. (is_same_root s.bitmap (system_root_of g which trees.Bitmap) && (is_same_root s.inode (system_root_of g which trees.Inodes) && (halves First i && halves Second i))) && list_all (λ b. nat_le (2 * g.half) b) (outer_blocks m (main_roots s)) in
-      let bitmap = further_agrees m bytes (main_roots s) t size is held 0 s.bitmap refl (and_left _ _ (and_left _ _ is.further_fit)) in
-      let e3 : first_below (bit_differs m s.bitmap g (outer_blocks m (main_roots s))) (g.bitmap_leaves * m.size * 8) ≡ first_below (bit_differs (with_bytes m bytes) s.bitmap g (outer_blocks m (main_roots s))) (g.bitmap_leaves * m.size * 8) =
-      first_alike _ _ (g.bitmap_leaves * m.size * 8) (λ b low. bit_alike m bytes (main_roots s) t size is held s.bitmap g (outer_blocks m (main_roots s)) b bitmap
-      (subst (λ n. b / 8 / m.size < n) (sym leaves) (div_below (b / 8) m.size g.bitmap_leaves size.size (div_below b 8 (g.bitmap_leaves * m.size) (omega arith) low)))) in
+      let e2 = laid_out_alike g which halves in
+      let e3 = bits_alike g leaves in
       let e4 : first_below (fails_nodes m (main_roots s) (walked_inodes m (main_roots s))) (inode_places (main_roots s) + 1) ≡ first_below (fails_nodes (with_bytes m bytes) (main_roots s) (walked_inodes m (main_roots s))) (inode_places (main_roots s) + 1) = first_alike _ _ (inode_places (main_roots s) + 1) (λ n low. fails_nodes_alike m bytes (main_roots s) t size is held n) in
       let e5 : first_below (fails_dots m (main_roots s) (walked_inodes m (main_roots s))) (inode_places (main_roots s) + 1) ≡ first_below (fails_dots (with_bytes m bytes) (main_roots s) (walked_inodes m (main_roots s))) (inode_places (main_roots s) + 1) =
       first_alike _ _ (inode_places (main_roots s) + 1) (λ n low. fails_dots_alike m bytes (main_roots s) t size is held large n (none_below (fails_nodes m (main_roots s) (walked_inodes m (main_roots s))) (inode_places (main_roots s) + 1) n nodes low)) in
@@ -96,9 +131,7 @@ module _ (m : BlockMap) (bytes : ℕ → List ℕ) (s : Superblock) (t : Tree) (
       let e7 : bad_long_name m (main_roots s) (walked_inodes m (main_roots s)) ≡ bad_long_name (with_bytes m bytes) (main_roots s) (walked_inodes m (main_roots s)) = bad_long_name_alike m bytes (main_roots s) t size is held in
       let same : first_some (reasons_in m s g which (main_roots s) (outer_blocks m (main_roots s)) (walked_inodes m (main_roots s))) ≡ first_some (reasons_in (with_bytes m bytes) s g which (main_roots s) (outer_blocks m (main_roots s)) (walked_inodes m (main_roots s))) =
       λ i. first_some (reason_at reasons.Halves (if e2 i then None else Some 0) ∷ reason_at reasons.Bitmap (e3 i) ∷ reason_at reasons.Nodes (e4 i) ∷ reason_at reasons.Dots (e5 i) ∷ reason_at reasons.Inodes (e6 i) ∷ reason_at reasons.LongNames (e7 i) ∷ []) in
-      let at_others : first_some (reasons_in (with_bytes m bytes) s g which (main_roots s) (outer_blocks m (main_roots s)) (walked_inodes m (main_roots s))) ≡ first_some (reasons_in (with_bytes m bytes) s g which (main_roots s) (outer_blocks (with_bytes m bytes) (main_roots s)) (walked_inodes (with_bytes m bytes) (main_roots s))) =
-      λ i. first_some (reasons_in (with_bytes m bytes) s g which (main_roots s) (outer_alike m bytes (main_roots s) t size is held i) (walked_alike m bytes (main_roots s) t size is held i)) in
-      sym (same ∙ at_others) ∙ none
+      sym (same ∙ reasons_of_same g which) ∙ none
 
   -- the same is found last
   pub last_alike : (o : Option Geometry) → last_with m s o ≡ last_with (with_bytes m bytes) s o

@@ -6,7 +6,7 @@ use Rattle.qx_geom.specs.Lists.{parts_below}
 use Rattle.qx_geom.specs.Pointer.{absent}
 use Rattle.qx_geom.specs.declared.root.Root.{Root}
 use Rattle.qx_super.specs.Superblock.{Superblock}
-use Rattle.qx_view.specs.Examples.{made_block, made_super, one_pointer}
+use Rattle.qx_view.specs.Examples.{changed_block, made_block, made_super, one_pointer}
 
 -- a root node
 abbrev pub root_by_hand : Root → List ℕ
@@ -40,13 +40,17 @@ second_bytes = super_by_hand 0xDAE951C0 made_super
 unfoldable pub zeros : ℕ → List ℕ
 zeros n = replicate n 0
 
--- the blocks, end to end
-unfoldable pub made_bytes : List ℕ
-made_bytes = parts_below 96 made_block
+-- the image of 96 blocks with these superblocks in its areas
+unfoldable pub image_of : (ℕ → List ℕ) → List ℕ → List ℕ → List ℕ
+image_of block first second = zeros 0x2000 ++ (first ++ (zeros 0xE00 ++ (parts_below 96 block ++ (second ++ zeros 0xE00))))
 
--- the image with these superblocks in its areas
-unfoldable pub image_with : List ℕ → List ℕ → List ℕ
-image_with first second = zeros 0x2000 ++ (first ++ (zeros 0xE00 ++ (made_bytes ++ (second ++ zeros 0xE00))))
+-- that of the volume's blocks
+abbrev pub image_with : List ℕ → List ℕ → List ℕ
+image_with first second = image_of made_block first second
+
+-- that of its superblocks, where other blocks have these bytes
+abbrev pub changed_image : List (ℕ × List ℕ) → List ℕ
+changed_image changes = image_of (changed_block changes) first_bytes second_bytes
 
 -- a superblock whose byte 16 isn't as its checksum says
 abbrev pub changed : List ℕ → List ℕ

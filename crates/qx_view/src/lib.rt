@@ -21,7 +21,8 @@ pub use examples::{
 };
 pub use findings::{Code, Finding};
 pub use images::{
-    the_small_image_cut_short, the_small_image_is_clean, the_small_image_with_changed_superblocks,
+    the_small_image_cut_short, the_small_image_is_clean, the_small_image_with_changed_blocks,
+    the_small_image_with_changed_superblocks,
 };
 pub use kinds::{the_attributes_of_counted_bytes, the_tree_of_each_kind};
 pub use laws::{

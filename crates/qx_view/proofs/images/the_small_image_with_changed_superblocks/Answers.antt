@@ -1,14 +1,8 @@
-use Rattle.std.proofs.Common.{◌≡◌, refl, ap}
-use Rattle.qx_fields.specs.Number.{field, fields}
-use Rattle.qx_super.specs.Active.{active_area}
-use Rattle.qx_super.specs.Checksum.{checksum_of, divided, shift}
-use Rattle.qx_super.specs.RootNode.{root_of}
-use Rattle.qx_super.specs.Superblock.{order_of}
+use Rattle.std.proofs.Common.{ap}
 use Rattle.qx_super.specs.declared.choice.Pick.TheVariants as picks
-use Rattle.qx_view.specs.SmallImage.{made_bytes, zeros}
 use Rattle.qx_view.specs.Sound.{verdict_at}
 use Rattle.qx_geom.specs.declared.area.Which.TheVariants.{First, Second}
-use Rattle.qx_view.proofs.SmallImages.{first_changed, first_changed-sound, second_changed, second_changed-sound}
+use Rattle.qx_view.proofs.SmallImages.{both_changed, first_changed, first_changed-sound, second_changed, second_changed-sound}
 use Rattle.qx_view.proofs.Verdicts.{sound_clean}
 use Rattle.qx_view.specs.Examples.{made_super, made_tree}
 use Rattle.qx_view.specs.SmallImage.{changed, first_bytes, image_with, made_first, second_bytes}
@@ -26,10 +20,5 @@ returns-clause-second c = sound_clean (image_with first_bytes (changed second_by
 pub returns-clause-second_tree : goal.returns-clause-second_tree
 returns-clause-second_tree c = second_changed-sound
 
--- no area is active where both superblocks are changed
-none : active_area (image_with (changed first_bytes) (changed second_bytes)) ≡ picks.None
-unfolding image_with first_bytes second_bytes made_bytes zeros checksum_of divided shift order_of field fields root_of active_area
-none = refl
-
 pub returns-clause-both : goal.returns-clause-both
-returns-clause-both c = ap (verdict_at (image_with (changed first_bytes) (changed second_bytes))) none
+returns-clause-both c = ap (verdict_at (image_with (changed first_bytes) (changed second_bytes))) both_changed
