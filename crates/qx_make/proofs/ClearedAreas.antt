@@ -8,7 +8,8 @@ use Rattle.qx_super.specs.declared.choice.Pick.TheVariants as picks
 use Rattle.qx_super.specs.Superblock.{Superblock, second_place_of, superblock_of}
 use Rattle.qx_super.specs.Active.{active_area, second_search}
 use Rattle.qx_super.proofs.SuperblockTests.{valid-elsewhere}
-use Rattle.qx_make.specs.Cut.{HasNoOtherSuperblock, last_place}
+use Rattle.qx_make.proofs.SearchedPlaces.{last_place}
+use Rattle.qx_make.specs.Cut.{HasNoOtherSuperblock}
 use Rattle.qx_make.specs.Stages.{after_stage, zero_stage}
 use Rattle.qx_make.proofs.BytesAt.{HasSame, HasSame-then, HasZeros, HasZeros-same, HasZeros-within, range_same}
 use Rattle.qx_make.proofs.OldVolume.{IsActiveFirst, IsActiveSecond, nothing_elsewhere}

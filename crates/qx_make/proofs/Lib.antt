@@ -26,6 +26,7 @@ pub mod NewWalk
 pub mod NewReasons
 pub mod NewSoundness
 pub mod BytesAt
+pub mod SearchedPlaces
 pub mod SuperblocksAt
 pub mod TornAreas
 pub mod MadeBlocks

@@ -16,7 +16,8 @@ use Rattle.qx_super.proofs.ActiveAreas.{active-first_alone, active-second_alone,
 use Rattle.qx_view.specs.Images.{image_blocks}
 use Rattle.qx_view.specs.Sound.{IsSound}
 use Rattle.qx_make.specs.Blocks.{AreMade}
-use Rattle.qx_make.specs.Cut.{IsLeftByMaker, last_place, new_volume, nothing}
+use Rattle.qx_make.proofs.SearchedPlaces.{last_place}
+use Rattle.qx_make.specs.Cut.{IsLeftByMaker, new_volume, nothing}
 use Rattle.qx_make.specs.Superblocks.{made_super}
 use Rattle.qx_make.proofs.MadeBlocks.{HasBlocks, block_bytes-made}
 use Rattle.qx_make.proofs.MadeSuperblocks.{made-later, made-one_volume, second_place_of-made}

@@ -1,6 +1,6 @@
 -- The stages that make a volume: which superblocks an image has meanwhile, and what is active at the end.
-use Rattle.std.proofs.Common.{◌≡◌, ℕ, ◌+◌, ◌^◌, ◌≤◌, ◌<◌, inl, inr, List, length, Some, None, Ok, refl, ap, sym, ◌∙◌, arith}
-use Rattle.std.specs.Prelude.{slice_index, slice_range}
+use Rattle.std.proofs.Common.{◌≡◌, ℕ, ◌+◌, ◌^◌, ◌≤◌, ◌<◌, inl, inr, List, length, Some, None, Ok, refl, ap, sym, ◌∙◌, subst, arith}
+use Rattle.std.specs.Prelude.{Contains, slice_index, slice_range}
 use Rattle.std.specs.Result.{result_ok}
 use Rattle.qx_bytes.specs.Ranges.{put_at}
 use Rattle.qx_bytes.proofs.Puts.{range_put_same}
@@ -24,6 +24,7 @@ use Rattle.qx_make.specs.Superblocks.{made_super, made_super_bytes}
 use Rattle.qx_make.proofs.BytesAt.{HasSame, HasSame-put, HasSame-then, HasZeros, HasZeros-put, HasZeros-same, HasZeros-within, length-put}
 use Rattle.qx_make.proofs.MadeBlocks.{HasBlocks, HasBlocks-put, HasBlocks-same, blocks-room}
 use Rattle.qx_make.proofs.MadeSuperblocks.{length_made_super, superblock_of-made}
+use Rattle.qx_make.proofs.SearchedPlaces.{among_new}
 use Rattle.qx_make.proofs.NewSuperblocks.{AreMade-image, both_active, last_place-second, left_new, neither_active, own_geometry, second-behind, second-room}
 use Rattle.qx_make.proofs.SuperblocksAt.{second_at-none, super_at, super_at-same, super_at-bytes, super_at-zeros}
 use Rattle.qx_make.proofs.TornAreas.{IsApartFrom-one, IsApartFrom-two, one_of_two, torn_apart, torn_put, whole_part}
@@ -198,7 +199,7 @@ module _ (g : Geometry) (order : Order) (moment size : ℕ) (is_geometry : geome
           left_new g order moment size is_geometry in_time old t new_sound img long_img
           (HasBlocks-same g own order moment img filled (torn_apart stage places img torn 0x3000 second between) filled-blocks)
           (torn_put stage places img torn 0x2000 first_bytes (made First) (0, omega arith, refl) (omega (arith, area-room, area-behind)) (first-none filled first-apart) first-only (first-valid (length img) long_img))
-          (torn_put stage places img torn second second_bytes (made Second) (1, omega arith, last_place-second g order moment size is_geometry in_time) (omega (arith, area-room)) (second-none filled second-apart) second-only (second-valid (length img) long_img))
+          (torn_put stage places img torn second second_bytes (made Second) (subst (λ (p : ℕ). Contains places p) (last_place-second g order moment size is_geometry in_time) (among_new old size (omega (arith, area-room)))) (omega (arith, area-room)) (second-none filled second-apart) second-only (second-valid (length img) long_img))
 
     -- ---- the end
 

@@ -1,6 +1,6 @@
 -- A cut while the old areas are zeroed leaves the old volume, or none.
-use Rattle.std.proofs.Common.{◌≡◌, ℕ, ◌+◌, ◌-◌, ◌≤◌, ◌⊎◌, inl, inr, List, ◌∷◌, length, min, Option, Some, None, refl, ap, sym, ◌∙◌, subst, arith}
-use Rattle.std.specs.Prelude.{Contains, option_to_list}
+use Rattle.std.proofs.Common.{◌≡◌, ℕ, ◌+◌, ◌-◌, ◌≤◌, ◌⊎◌, inl, inr, List, length, min, Option, Some, None, refl, ap, sym, ◌∙◌, arith}
+use Rattle.std.specs.Prelude.{Contains}
 use Rattle.std.proofs.lemmas.Bool.{cases_eq}
 use Rattle.std.proofs.lemmas.Option.{same_Some}
 use Rattle.qx_geom.specs.declared.area.Which.TheVariants.{First, Second}
@@ -9,11 +9,12 @@ use Rattle.qx_super.specs.declared.choice.Pick.TheVariants as picks
 use Rattle.qx_super.specs.Superblock.{Superblock, second_place_of}
 use Rattle.qx_super.specs.Active.{active_area, second_search, only_at, second_super, searched_place}
 use Rattle.qx_super.proofs.ActiveAreas.{active-first_alone, active-second_alone}
-use Rattle.qx_make.specs.Cut.{HasNoOtherSuperblock, IsLeftByMaker, IsTorn, last_place, nothing, places_of}
+use Rattle.qx_make.specs.Cut.{HasNoOtherSuperblock, IsLeftByMaker, IsTorn, nothing, places_of}
 use Rattle.qx_make.specs.Stages.{after_stage, zero_stage}
 use Rattle.qx_make.proofs.BytesAt.{HasSame, HasSame-then, HasZeros-within}
 use Rattle.qx_make.proofs.ClearedAreas.{last_parts, last_place-aligned, zeroed_at}
 use Rattle.qx_make.proofs.OldVolume.{IsActiveFirst, IsActiveSecond, left_old, nothing_elsewhere}
+use Rattle.qx_make.proofs.SearchedPlaces.{among_old, among_search, last_place}
 use Rattle.qx_make.proofs.SuperblocksAt.{active-same, none_active, none_there, second_at, second_at-here, second_at-none, second_search-last, second_search-named, second_super-at, super_at, super_at-same, super_at-zeros}
 use Rattle.qx_make.proofs.TornAreas.{AreZeros-one, length-zeroed, torn_apart, torn_apart-super, torn_zeroed-apart, torn_zeros, zeroed-apart, zeroed-within}
 
@@ -25,10 +26,6 @@ module _ (old : List ℕ) (size : ℕ) (t : Tree) (alone : HasNoOtherSuperblock 
   -- where the second area is looked for if the first is none
   abbrev last : ℕ
   last = last_place (length old)
-
-  -- the place where the second area of the old bytes is looked for is among them
-  among_search : (place : ℕ) → second_search old ≡ Some place → Contains places place
-  among_search place found = subst (λ (o : Option ℕ). Contains (0x2000 ∷ last_place size ∷ last_place (length old) ∷ option_to_list o) place) (sym found) (3, omega arith, refl)
 
   -- during the zeroing of an area, a place has the superblock that was kept or none
   kept_or_none : (bytes : List ℕ) (area : ℕ) (img : List ℕ) → IsTorn (zero_stage bytes area) places img → (place : ℕ) → Contains places place → (super_at img place ≡ super_at bytes place) ⊎ (super_at img place ≡ None)
@@ -55,10 +52,10 @@ module _ (old : List ℕ) (size : ℕ) (t : Tree) (alone : HasNoOtherSuperblock 
   left_nothing img long first second = nothing (none_active img first (λ enough. ap (λ (n : ℕ). second_at img (last_place n)) long ∙ second (omega arith)))
 
   -- the last place, if it is not the first area's, where none is kept there
-  last_none : (bytes : List ℕ) (area : ℕ) (img : List ℕ) → IsTorn (zero_stage bytes area) places img → super_at img 0x2000 ≡ None → ((last ≡ 0x2000 → ⊥) → super_at bytes last ≡ None) → second_at img last ≡ None
-  last_none bytes area img torn first elsewhere = second_at-none img last (elim (cases_eq last 0x2000) [
+  last_none : 4096 ≤ length old → (bytes : List ℕ) (area : ℕ) (img : List ℕ) → IsTorn (zero_stage bytes area) places img → super_at img 0x2000 ≡ None → ((last ≡ 0x2000 → ⊥) → super_at bytes last ≡ None) → second_at img last ≡ None
+  last_none enough bytes area img torn first elsewhere = second_at-none img last (elim (cases_eq last 0x2000) [
     | inl here ↦ ap (λ (p : ℕ). super_at img p) here ∙ first
-    | inr other ↦ stays_none bytes area img torn last (2, omega arith, refl) (elsewhere other)
+    | inr other ↦ stays_none bytes area img torn last (among_old old size enough) (elsewhere other)
   ])
 
   -- ---- where the first area is active
@@ -79,7 +76,7 @@ module _ (old : List ℕ) (size : ℕ) (t : Tree) (alone : HasNoOtherSuperblock 
     left-first_other img torn =
         let same = stays old second img torn 0x3000 second (inl (omega arith)) in
         let first : super_at img 0x2000 ≡ Some s = stays_super old second img torn 0x2000 (inl (omega (arith, active.place.behind))) ∙ active.first in
-        elim (kept_or_none old second img torn second (among_search second active.search)) [
+        elim (kept_or_none old second img torn second (among_search old size second active.search)) [
           | inr none ↦ first_stays img torn.size same first (second_at-none img second none)
           | inl kept ↦
               let seconds : second_super img ≡ second_super old =
@@ -99,7 +96,7 @@ module _ (old : List ℕ) (size : ℕ) (t : Tree) (alone : HasNoOtherSuperblock 
         stays_super inner 0x2000 img torn second (inr (omega (arith, active.place.behind))) ∙ super_at-zeros inner second (HasZeros-within inner second (second + 4096) second (second + 512) (omega arith) (omega arith) (zeroed-within old second)) in
         elim (kept_or_none inner 0x2000 img torn 0x2000 (0, omega arith, refl)) [
           | inl kept ↦ first_stays img long same (kept ∙ first_kept) (second_at-none img second second_none)
-          | inr none ↦ left_nothing img long none (λ enough. last_none inner 0x2000 img torn none (λ not_first.
+          | inr none ↦ left_nothing img long none (λ enough. last_none enough inner 0x2000 img torn none (λ not_first.
               elim (zeroed_at old second last active.place.parts (last_parts (length old)) active.place.aligned (last_place-aligned (length old))) [
                 | inl zeros ↦ super_at-zeros inner last zeros
                 | inr kept ↦ nothing_elsewhere old alone inner last kept.0 not_first (λ found. kept.1 (same_Some second last (sym active.search ∙ found)))
@@ -135,7 +132,7 @@ module _ (old : List ℕ) (size : ℕ) (t : Tree) (alone : HasNoOtherSuperblock 
               left_old old t Second s active.active active.superblock active.place img torn.size same (both.0 ∙ active.active) (both.1 ∙ active.superblock)
           | inr none ↦ elim (cases_eq last own) [
             | inl here ↦ second_stays img torn.size same none (there ∙ active.second) here
-            | inr other ↦ left_nothing img torn.size none (λ enough. last_none old 0x2000 img torn none (λ not_first.
+            | inr other ↦ left_nothing img torn.size none (λ enough. last_none enough old 0x2000 img torn none (λ not_first.
                 nothing_elsewhere old alone old last (record { each = λ k low high. refl }) not_first (λ found. other (same_Some last own (sym found ∙ active.search)))))
           ]
         ]
@@ -151,11 +148,11 @@ module _ (old : List ℕ) (size : ℕ) (t : Tree) (alone : HasNoOtherSuperblock 
         stays_super inner own img torn 0x2000 (inl (omega arith)) ∙ super_at-zeros inner 0x2000 (HasZeros-within inner 0x2000 (0x2000 + 4096) 0x2000 (0x2000 + 512) (omega arith) (omega arith) (zeroed-within old 0x2000)) in
         let second_kept : super_at inner own ≡ Some s = super_at-same inner old own (length-zeroed old 0x2000) (zeroed-apart old 0x2000 own (own + 512) (inr (omega arith))) ∙ active.second in
         elim (cases_eq last own) [
-          | inl here ↦ elim (kept_or_none inner own img torn own (among_search own active.search)) [
+          | inl here ↦ elim (kept_or_none inner own img torn own (among_search old size own active.search)) [
             | inl kept ↦ second_stays img long same first (kept ∙ second_kept) here
             | inr none ↦ left_nothing img long first (λ enough. second_at-none img last (ap (λ (p : ℕ). super_at img p) here ∙ none))
           ]
-          | inr other ↦ left_nothing img long first (λ enough. last_none inner own img torn first (λ not_first.
+          | inr other ↦ left_nothing img long first (λ enough. last_none enough inner own img torn first (λ not_first.
               elim (zeroed_at old 0x2000 last 16 (last_parts (length old)) refl (last_place-aligned (length old))) [
                 | inl zeros ↦ super_at-zeros inner last zeros
                 | inr kept ↦ nothing_elsewhere old alone inner last kept.0 not_first (λ found. other (same_Some last own (sym found ∙ active.search)))
@@ -169,7 +166,7 @@ module _ (old : List ℕ) (size : ℕ) (t : Tree) (alone : HasNoOtherSuperblock 
   left-none none img torn =
       let nowhere = none_there old none in
       left_nothing img torn.size (stays_none old 0x2000 img torn 0x2000 (0, omega arith, refl) nowhere.0) (λ enough.
-      elim (kept_or_none old 0x2000 img torn last (2, omega arith, refl)) [
+      elim (kept_or_none old 0x2000 img torn last (among_old old size enough)) [
         | inl kept ↦
             let missing : second_at old last ≡ None = sym (second_super-at old last (second_search-last old nowhere.0 enough)) ∙ nowhere.1 in
             ap (λ (o : Option Superblock). only_at last o) kept ∙ missing

@@ -10,7 +10,7 @@ use Rattle.qx_super.specs.Active.{active_area, active_super, area_at, first_supe
 use Rattle.qx_super.proofs.ActiveAreas.{active-none, superblock_of-zeros, none_picked}
 use Rattle.qx_super.proofs.SuperblockTests.{superblock_of-wrong}
 use Rattle.qx_super.proofs.ValidSuperblocks.{ok_of}
-use Rattle.qx_make.specs.Cut.{last_place}
+use Rattle.qx_make.proofs.SearchedPlaces.{last_place, searched_last}
 use Rattle.qx_make.proofs.BytesAt.{HasSame, HasZeros, range_same, range_zeros}
 
 -- the valid superblock at a place of an image
@@ -117,7 +117,7 @@ second_search-named img s e = ap (λ (first : Option Superblock). searched_place
 -- or at the last whole 4096 bytes
 pub second_search-last : (img : List ℕ) → super_at img 0x2000 ≡ None → 4096 ≤ length img → second_search img ≡ Some (last_place (length img))
 second_search-last img e long =
-    ap (λ (first : Option Superblock). searched_place (length img) first) e ∙ ap (λ (b : Bool). if b then Some (last_place (length img)) else None) (le-leb 4096 (length img) long)
+    ap (λ (first : Option Superblock). searched_place (length img) first) e ∙ searched_last (length img) long
 
 -- on a short device nowhere
 pub second_search-none : (img : List ℕ) → super_at img 0x2000 ≡ None → length img < 4096 → second_search img ≡ None

@@ -19,12 +19,13 @@ use Rattle.qx_super.specs.Active.{active_area, active_super, only_at, choice_in}
 use Rattle.qx_view.specs.Images.{image_blocks}
 use Rattle.qx_view.specs.Sound.{IsSound}
 use Rattle.qx_make.specs.Blocks.{AreMade}
-use Rattle.qx_make.specs.Cut.{HasNoOtherSuperblock, IsLeftByMaker, IsTorn, LeavesByMaker, last_place, new_volume, nothing, places_of}
+use Rattle.qx_make.specs.Cut.{HasNoOtherSuperblock, IsLeftByMaker, IsTorn, LeavesByMaker, new_volume, nothing, places_of}
 use Rattle.qx_make.specs.Stages.{IsInStage, Stage, after_stage, areas_stage, make_stages, new_stages, old_places, places_by, rest_stage, with_areas, with_blocks, with_supers, zero_stage, zero_stages, zeroed}
 use Rattle.qx_make.specs.Superblocks.{made_super}
 use Rattle.qx_make.proofs.BytesAt.{HasSame, HasZeros-same, HasZeros-within, byte_of_resized, byte_of_zeros, length-resized}
 use Rattle.qx_make.proofs.ClearedAreas.{IsCleared, IsCleared-first, IsCleared-none, IsCleared-second, nothing_last}
 use Rattle.qx_make.proofs.NewVolume.{AreMade-done, active-done, active_area-blocks, left-supers, length-done}
+use Rattle.qx_make.proofs.SearchedPlaces.{among_new, last_place}
 use Rattle.qx_make.proofs.NewSuperblocks.{last_place-second, neither_active, second-behind, second-room}
 use Rattle.qx_make.proofs.OldAreas.{left-first_itself, left-first_other, left-none, left-second_itself, left-second_other}
 use Rattle.qx_make.proofs.OldVolume.{IsActiveFirst-is, IsActiveSecond-is}
@@ -146,7 +147,7 @@ module _ (old : List ℕ) (size : ℕ) (t : Tree) (agree : active_area old ≡ p
             | inl kept ↦ kept ∙ first_none
             | inr gone ↦ gone
           ])
-          (elim (torn_zeros stage places img torn second blank (1, omega arith, last_place-second g order moment size is_geometry in_time)) [
+          (elim (torn_zeros stage places img torn second blank (subst (λ (p : ℕ). Contains places p) (last_place-second g order moment size is_geometry in_time) (among_new old size (omega (arith, room))))) [
             | inl kept ↦ ap (λ (o : Option Superblock). only_at second o) kept ∙ second_none
             | inr gone ↦ second_at-none img second gone
           ]))

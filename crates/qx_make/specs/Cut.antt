@@ -1,6 +1,6 @@
 -- What a cut of the maker may leave, and on which premises.
-use Rattle.std.specs.Prelude.{ℕ, ◌≡◌, ◌≢◌, ◌+◌, ◌-◌, ◌≤◌, ◌⊎◌, ◌↔◌, true, List, ◌∷◌, ◌++◌, length, replicate, slice_index, slice_range, option_to_list, Some, Ok, Contains}
-use Rattle.qx_geom.specs.Layout.{first_place, whole_length}
+use Rattle.std.specs.Prelude.{ℕ, ◌≡◌, ◌≢◌, ◌+◌, ◌≤◌, ◌⊎◌, ◌↔◌, true, List, [], ◌∷◌, ◌++◌, flat_map, length, replicate, slice_index, slice_range, option_to_list, None, Some, Ok, Contains}
+use Rattle.qx_geom.specs.Layout.{first_place}
 use Rattle.qx_geom.specs.declared.area.Which.{Which}
 use Rattle.qx_outside.specs.Trail.{History, bytes_of}
 use Rattle.qx_outside.specs.Images.{IsImage, IsSettled}
@@ -8,19 +8,15 @@ use Rattle.qx_outside.specs.Puts.{IsApartFrom, IsPartOf}
 use Rattle.qx_model.specs.Tree.{Tree}
 use Rattle.qx_super.specs.declared.choice.Pick.TheVariants as picks
 use Rattle.qx_super.specs.Superblock.{Superblock, has_right_checksum, superblock_of}
-use Rattle.qx_super.specs.Active.{active_area, active_super, second_search}
+use Rattle.qx_super.specs.Active.{active_area, active_super, searched_place, second_search}
 use Rattle.qx_view.specs.Reading.{IsTree}
 use Rattle.qx_view.specs.Sound.{IsSound}
 use Rattle.qx_view.specs.FalseSuperblocks.{HasNoFalseSuperblock}
 use Rattle.qx_make.specs.Stages.{Stage}
 
--- the last 4096 bytes of a device's whole ones, where a second area is looked for if the first is none
-abbrev pub last_place : ℕ → ℕ
-last_place len = whole_length len - 0x1000
-
--- the places at which a superblock is looked for in the old bytes or in the new ones
+-- the places at which a superblock is looked for in the old bytes or in the new ones: that of the first area, and where the second is looked for if the first is none, or by the old first one
 abbrev pub places_of : List ℕ → ℕ → List ℕ
-places_of old size = first_place ∷ last_place size ∷ last_place (length old) ∷ option_to_list (second_search old)
+places_of old size = first_place ∷ flat_map option_to_list (searched_place size None ∷ searched_place (length old) None ∷ second_search old ∷ [])
 
 -- the old bytes, followed by any number of bytes 0, have a superblock's magic and a right checksum at no other place than the two at which their areas are looked for
 pub record HasNoOtherSuperblock (old : List ℕ) : Type 0 where
