@@ -1,11 +1,11 @@
 -- What the blocks in memory mean once one slot is written.
-use Rattle.std.proofs.Common.{◌≡◌, ℕ, ◌+◌, ◌-◌, ◌^◌, ◌<◌, inl, inr, Bool, true, false, not, List, [], drop, length, refl, sym, ◌∙◌, ap, subst, arith, Option, None, Some, get_or, set}
+use Rattle.std.proofs.Common.{◌≡◌, ℕ, ◌+◌, ◌-◌, ◌<◌, inl, inr, Bool, true, false, not, List, [], drop, length, refl, sym, ◌∙◌, ap, subst, arith, Option, None, Some, get_or, set}
 use Rattle.std.specs.Prelude.{is_some, unwrap_or, count_by, option_map, replicate, IsTrue, ◌==◌, if◌then◌else◌}
-use Rattle.std.proofs.lemmas.List.{get_or-set_same, get_or-set_other, get_or_past, length-set, length-replicate, get_or-replicate, set_past}
+use Rattle.std.proofs.lemmas.List.{get_or-set_same, get_or-set_other, get_or_past, length-set, set_past}
 use Rattle.std.proofs.lemmas.List.Sums.{sum_by-set}
 use Rattle.std.proofs.lemmas.Bool.{cases_eq, cases_lt, eq-eqb, eqb-true}
 use Rattle.std.proofs.Math.Seq.{take-append_seam}
-use Rattle.qx_blocks.specs.BlockState.{BlockState, put, with_bytes, with_fresh, without, IsBlockSize}
+use Rattle.qx_blocks.specs.BlockState.{BlockState, put, with_bytes, with_fresh, without}
 use Rattle.qx_blocks.specs.MemState.{MemState, slot_at, holds, free_in, no_history, state_of, edited_in, refit, with_slot, IsKept}
 
 -- a list with a new element, as a function of the place
@@ -114,16 +114,6 @@ state-taken v b unheld place some = state-with_slot v b (free_in v - 1) (Some (r
 -- a held block is given up
 pub state-released : (v : MemState) (b : ℕ) → IsTrue (holds v b) → state_of (with_slot v b None) ≡ without (state_of v) b
 state-released v b held = rw held (state-with_slot v b (free_in v + 1) None (within-held v.blocks b held) (rw held (omega arith)))
-
--- blocks that are all free are in order
-pub IsKept-none : (size n : ℕ) → IsBlockSize size → n < 2 ^ 32 → IsKept (record { size = size; blocks = replicate n None })
-IsKept-none size n is few = record {
-  size = is;
-  few = rw length-replicate few;
-  lengths = λ b xs h. absurd (cc (none-at n b));
-} where
-  none-at : (n b : ℕ) → get_or {A = Option (List ℕ)} (replicate n None) b None ≡ None
-  none-at n b = elim (cases_lt b n) [ inl low ↦ get_or-replicate n b None None low | inr high ↦ get_or_past (replicate n None) b None (rw length-replicate high) ]
 
 -- a slot that gets as many bytes as a block, or none, leaves the blocks in order
 pub IsKept-with_slot : (v : MemState) (b : ℕ) (x : Option (List ℕ)) → IsKept v → ((xs : List ℕ) → x ≡ Some xs → length xs ≡ v.size) → IsKept (with_slot v b x)
