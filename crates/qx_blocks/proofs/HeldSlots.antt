@@ -10,7 +10,8 @@ use Rattle.std.proofs.lemmas.List.Quantifiers.{position-Some}
 use Rattle.qx_blocks.specs.declared.memory.Slot.{Slot}
 use Rattle.qx_blocks.specs.declared.memory.MemBlocks.TheInside.{Inside}
 use Rattle.qx_blocks.specs.BlockState.{with_fresh, without}
-use Rattle.qx_blocks.specs.MemState.{MemState, free_in, state_of, holds, slot_at, with_slot, refit, edited_in, IsKept}
+use Rattle.qx_bytes.specs.SameLengths.{refit}
+use Rattle.qx_blocks.specs.MemState.{MemState, free_in, state_of, holds, slot_at, with_slot, edited_in, IsKept}
 use Rattle.qx_blocks.specs.MemView.{slot_bytes, mem_state_in, IsCounted, IsFreeSlot}
 use Rattle.qx_blocks.specs.SlotWrites.{free-with_slot, IsKept-with_slot, within-held, state-released, state-taken}
 

@@ -1,5 +1,6 @@
 -- Blocks in memory, seen as the bytes of each block that is held.
-use Rattle.std.specs.Prelude.{◌≡◌, ℕ, ◌<◌, ◌^◌, Bool, true, not, List, [], ◌++◌, take, drop, Option, Some, None, is_some, unwrap_or, count_by, length, slice_index_or, slice_set, option_map}
+use Rattle.std.specs.Prelude.{◌≡◌, ℕ, ◌<◌, ◌^◌, Bool, true, not, List, [], Option, Some, None, is_some, unwrap_or, count_by, length, slice_index_or, slice_set, option_map}
+use Rattle.qx_bytes.specs.SameLengths.{refit}
 use Rattle.qx_outside.specs.Trail.{History}
 use Rattle.qx_blocks.specs.BlockState.{BlockState, IsBlockSize}
 
@@ -40,10 +41,6 @@ state_of v = record {
   bytes = λ b. unwrap_or (slot_at v b) [];
   history = no_history;
 }
-
--- as many bytes as the old ones: the new, cut or filled up from the old
-abbrev pub refit : List ℕ → List ℕ → List ℕ
-refit old new = take (length old) (new ++ drop (length new) old)
 
 -- slot b has these bytes, or none
 abbrev pub with_slot : MemState → ℕ → Option (List ℕ) → MemState

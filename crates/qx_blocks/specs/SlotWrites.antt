@@ -6,7 +6,8 @@ use Rattle.std.proofs.lemmas.List.Sums.{sum_by-set}
 use Rattle.std.proofs.lemmas.Bool.{cases_eq, cases_lt, eq-eqb, eqb-true}
 use Rattle.std.proofs.Math.Seq.{take-append_seam}
 use Rattle.qx_blocks.specs.BlockState.{BlockState, put, with_bytes, with_fresh, without}
-use Rattle.qx_blocks.specs.MemState.{MemState, slot_at, holds, free_in, no_history, state_of, edited_in, refit, with_slot, IsKept}
+use Rattle.qx_bytes.specs.SameLengths.{refit}
+use Rattle.qx_blocks.specs.MemState.{MemState, slot_at, holds, free_in, no_history, state_of, edited_in, with_slot, IsKept}
 
 -- a list with a new element, as a function of the place
 pub place-set : {A : Type 0} (xs : List A) (b q : ℕ) (x d : A) → b < length xs → get_or (set xs b x) q d ≡ put (λ k. get_or xs k d) b x q

@@ -1,7 +1,7 @@
 //! Bytes that are put at a place of a list: what stands there afterwards, and what stays.
 //!
-//! Stands on nothing; numbers in slices and the bytes of a device stand on it.
-//! Its contract: the laws below, about the one definition `put_at` of `specs/Ranges.antt`.
+//! Stands on nothing; numbers in slices, the bytes of a device and of changed blocks stand on it.
+//! Its contract: the laws below, about `put_at` of `specs/Ranges.antt`, and the one word of `specs/SameLengths.antt`.
 //! It keeps no state, takes no memory and has no code that runs.
 #![tactic(auto)]
 

@@ -12,7 +12,8 @@ use Rattle.qx_blockset.specs.Members.{has}
 use Rattle.qx_alloc.specs.SpaceState.{SpaceState, IsConsistent, IsFree, is_held, is_private_in, limit_in}
 use Rattle.qx_alloc.specs.SpaceState as space
 use Rattle.qx_patch.proofs.OrderedEntries.{length-refit}
-use Rattle.qx_cache.specs.CacheState.{CacheState, device_block, edited_in, is_kept, refit, with_host, with_released, with_taken, with_thawed, with_written}
+use Rattle.qx_bytes.specs.SameLengths.{refit}
+use Rattle.qx_cache.specs.CacheState.{CacheState, device_block, edited_in, is_kept, with_host, with_released, with_taken, with_thawed, with_written}
 use Rattle.qx_blocks.specs.BlockState.{IsBlockSize}
 use Rattle.qx_cache.specs.CacheView.{cache_in, IsInOrder}
 use Rattle.qx_cache.specs.Coherence.{HasRoom}

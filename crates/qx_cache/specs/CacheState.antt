@@ -1,10 +1,11 @@
 -- A cache of a device's blocks, as the layers above see it.
-use Rattle.std.specs.Prelude.{ℕ, ◌+◌, ◌*◌, ◌==◌, Bool, false, not, ◌||◌, List, [], ◌∷◌, ◌++◌, length, take, drop, replicate, slice_range, Option, if◌then◌else◌, refl, unwrap_or}
+use Rattle.std.specs.Prelude.{ℕ, ◌+◌, ◌*◌, ◌==◌, Bool, false, not, ◌||◌, List, [], ◌∷◌, take, replicate, slice_range, Option, if◌then◌else◌, refl, unwrap_or}
 use Rattle.std.specs.List.{filter}
 use Rattle.std.specs.Option.{option_or}
 use Rattle.std.specs.Ordering.{nat_cmp}
 use Rattle.std.specs.FinMap.{FinMap, get, contains_key, insert, remove, empty, code}
 use Rattle.std.specs.Coded.{Coded, code_by, coded×, coded_ℕ, coded_bool, coded_list}
+use Rattle.qx_bytes.specs.SameLengths.{refit}
 use Rattle.qx_outside.specs.Outside.{Outside}
 use Rattle.qx_outside.specs.declared.event.Attachment.{Attachment}
 use Rattle.qx_outside.specs.Trail.{bytes_of}
@@ -140,10 +141,6 @@ with_taken c b = record c { space = space.with_taken c.space b; changes = insert
 -- the working tree gave block b up
 abbrev pub with_released : {H : Type 0} → CacheState H → ℕ → CacheState H
 with_released c b = record c { space = space.without c.space b; changes = remove c.changes b }
-
--- as many bytes as the old ones: the new, cut or filled up from the old
-abbrev pub refit : List ℕ → List ℕ → List ℕ
-refit old new = take (length old) (new ++ drop (length new) old)
 
 -- block b, which the working tree alone holds, got these bytes
 abbrev pub edited_in : {H : Type 0} → CacheState H → ℕ → List ℕ → CacheState H

@@ -1,15 +1,15 @@
 -- What the blocks of a cache mean once one of them was lent for writing.
-use Rattle.std.proofs.Common.{◌≡◌, ℕ, true, List, [], length, drop, refl, ◌∙◌, ap, Option, None, Some}
+use Rattle.std.proofs.Common.{◌≡◌, ℕ, true, List, [], length, refl, ◌∙◌, ap, Option, None, Some}
 use Rattle.std.specs.Prelude.{IsTrue, is_some, unwrap_or, if◌then◌else◌}
 use Rattle.std.specs.Option.{option_or}
 use Rattle.std.specs.FinMap.{get, contains_key, insert}
-use Rattle.std.proofs.Math.Seq.{take-append_seam}
 use Rattle.qx_outside.specs.Outside.{Outside}
 use Rattle.qx_outside.specs.Trail.{bytes_of}
 use Rattle.qx_alloc.specs.SpaceState.{is_held}
 use Rattle.qx_blocks.specs.BlockState.{BlockState, Holdings, with_bytes}
-use Rattle.qx_blocks.specs.SlotWrites.{put-same, through-put}
-use Rattle.qx_cache.specs.CacheState.{CacheState, device_block, edited_in, refit, state_of}
+use Rattle.qx_blocks.specs.SlotWrites.{put-same, refit-same, through-put}
+use Rattle.qx_bytes.specs.SameLengths.{refit}
+use Rattle.qx_cache.specs.CacheState.{CacheState, device_block, edited_in, state_of}
 use Rattle.qx_cache.specs.ChangedKeys.{get-put, there-put}
 
 -- states with equal parts are equal
@@ -28,10 +28,6 @@ same_holdings m n size count held works private ready free = λ i. record {
   ready = λ q. ready q i;
   free = free i;
 }
-
--- as many new bytes as old ones are taken as they are
-pub refit-same : (old new : List ℕ) → length new ≡ length old → refit old new ≡ new
-refit-same old new same = rw (← same) (take-append_seam new (drop (length new) old))
 
 -- so are those of a block that is changed
 refit-changed : (change other : Option (List ℕ)) (device new : List ℕ) → is_some change ≡ true → length new ≡ length (unwrap_or (option_or change other) device) → refit (unwrap_or change []) new ≡ new

@@ -12,7 +12,8 @@ use Rattle.std.proofs.lemmas.List.{get_or-map, get_or_default, length-map, lengt
 use Rattle.std.proofs.lemmas.List.Elements.{All-set}
 use Rattle.qx_patch.specs.declared.patch.Entry.{Entry}
 use Rattle.qx_patch.specs.declared.patch.Patch.TheInside.{Inside}
-use Rattle.qx_patch.specs.PatchState.{PatchState, refit, edited_in}
+use Rattle.qx_bytes.specs.SameLengths.{refit}
+use Rattle.qx_patch.specs.PatchState.{PatchState, edited_in}
 use Rattle.qx_patch.specs.PatchView.{IsAscending, IsInOrder, numbers_of, pairs_of, patch_in}
 use Rattle.qx_patch.proofs.EntryMaps.{find-at, find-absent, map-set as map-changed}
 

@@ -1,8 +1,9 @@
 -- Changed blocks, as the layers above see them.
-use Rattle.std.specs.Prelude.{ℕ, ◌-◌, ◌+◌, ◌≤◌, List, [], ◌++◌, length, take, drop, IsTrue, if◌then◌else◌, refl, unwrap_or}
+use Rattle.std.specs.Prelude.{ℕ, ◌-◌, ◌+◌, ◌≤◌, List, [], IsTrue, if◌then◌else◌, refl, unwrap_or}
 use Rattle.std.specs.Ordering.{nat_cmp}
 use Rattle.std.specs.FinMap.{FinMap, get, contains_key, insert, remove, code}
 use Rattle.std.specs.Coded.{Coded, code_by, coded×, coded_ℕ, coded_list}
+use Rattle.qx_bytes.specs.SameLengths.{refit}
 
 -- the size of a block, how many more blocks have room, and the bytes of each block that is there
 pub record PatchState : Type 0 where
@@ -23,10 +24,6 @@ with_block p b bytes = record p { spare = if contains_key p.blocks b then p.spar
 -- block b is gone, and its room is spare
 abbrev pub without_block : PatchState → ℕ → PatchState
 without_block p b = record p { spare = if contains_key p.blocks b then p.spare + 1 else p.spare; blocks = remove p.blocks b }
-
--- as many bytes as the old ones: the new, cut or filled up from the old
-abbrev pub refit : List ℕ → List ℕ → List ℕ
-refit old new = take (length old) (new ++ drop (length new) old)
 
 -- block b, which is there, got these bytes
 abbrev pub edited_in : PatchState → ℕ → List ℕ → PatchState

@@ -5,7 +5,7 @@ use Rattle.qx_outside.specs.Trail.{bytes_of}
 use Rattle.qx_alloc.specs.SpaceState.{is_held}
 use Rattle.qx_cache.specs.CacheState.{change_of}
 use Rattle.qx_cache.specs.CacheView.{cache_in, IsInOrder}
-use Rattle.qx_cache.specs.Edits.{refit-same}
+use Rattle.qx_blocks.specs.SlotWrites.{refit-same}
 use Rattle.qx_cache.proofs.BlockReads.{ok_holds, reads-changed, reads-kept, unchanged}
 use Rattle.qx_cache.proofs.OrderSteps.{order-read, order-unread}
 use Rattle.qx_cache.proofs.cache.Cache.bring.Goals as goal
