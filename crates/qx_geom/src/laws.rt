@@ -8,7 +8,7 @@ ghost use Rattle.qx_geom.specs.Layout.{IsGeometry, IsPointerBlock, IsTreeBlock, 
 ghost use Rattle.qx_geom.specs.Lists.{Distinct, IsAscending, is_in};
 ghost use Rattle.qx_geom.specs.Pointer.{ceil_div, per_block, reach};
 ghost use Rattle.qx_geom.specs.Positions.{HasPosition, Shape, at_level, present_after, shape_of};
-ghost use Rattle.qx_geom.specs.Touch.{IsTouched, fresh_at, is_touched, need_of_change};
+ghost use Rattle.qx_geom.specs.Touch.{IsTouched, fresh_at, is_touched, need_of, need_of_change};
 
 /// The levels of so many leaves reach them, and no fewer levels do.
 pub fn the_levels_are_the_least()
@@ -84,8 +84,15 @@ pub fn the_fresh_positions_are_touched()
         → (k j : ℕ) → (is_in (fresh_at blocksize old new written private k) j ≡ true) ↔ (IsTouched blocksize old new written k j × (¬ (HasPosition blocksize old k j) ⊎ (private k j ≡ false))) }
 {}
 
-/// A change to the same size that writes nothing and takes nothing out needs no block.
+/// A change to the same size that writes nothing and takes nothing out needs no block, nor does a node whose shape stays.
 pub fn no_change_needs_no_block()
-    ensures { (blocksize size : ℕ) (present : List ℕ) (private : ℕ → ℕ → Bool) → ((i : ℕ) → is_in present i ≡ true → i < ceil_div size blocksize)
+    ensures size { (blocksize size : ℕ) (present : List ℕ) (private : ℕ → ℕ → Bool) → ((i : ℕ) → is_in present i ≡ true → i < ceil_div size blocksize)
         → need_of_change blocksize (shape_of blocksize size present) size [] None private ≡ 0 }
+    ensures shape { (blocksize : ℕ) (s : Shape) (private : ℕ → ℕ → Bool) → need_of blocksize s s [] private ≡ 0 }
+{}
+
+/// The need depends on which old positions have a private block, and on no others.
+pub fn the_need_depends_on_old_positions()
+    ensures { (blocksize : ℕ) (old new : Shape) (written : List ℕ) (p q : ℕ → ℕ → Bool) → ((k j : ℕ) → HasPosition blocksize old k j → p k j ≡ q k j)
+        → need_of blocksize old new written p ≡ need_of blocksize old new written q }
 {}

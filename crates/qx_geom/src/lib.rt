@@ -23,7 +23,8 @@ pub use geometry::{BLOCKS_BEGIN, FIRST_PLACE, GeomFault, Geometry};
 pub use laws::{
     a_tree_stands_in_its_half, a_word_points_a_level_below, no_change_needs_no_block,
     positions_of_a_level_ascend, present_leaves_after_a_change, the_fresh_positions_are_touched,
-    the_geometry_of_a_device_is_a_volumes, the_levels_are_the_least, the_second_area_comes_last,
+    the_geometry_of_a_device_is_a_volumes, the_levels_are_the_least,
+    the_need_depends_on_old_positions, the_second_area_comes_last,
     the_test_decides_what_is_touched, the_volume_has_room_for_both_halves,
 };
 pub use root::{ABSENT, Root};
