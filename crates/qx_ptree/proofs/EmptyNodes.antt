@@ -1,18 +1,14 @@
 -- A node of nothing.
 use Rattle.std.proofs.Common.{◌≡◌, ℕ, ◌+◌, ◌-◌, ◌/◌, ◌<◌, ◌≤◌, ap, arith}
-use Rattle.std.specs.Prelude.{false, not, ◌||◌, ◌==◌, replicate}
+use Rattle.std.specs.Prelude.{false, not, ◌||◌, ◌==◌}
 use Rattle.std.proofs.lemmas.Nat.{div_below}
 use Rattle.qx_fields.specs.declared.order.Order.{Order}
-use Rattle.qx_geom.specs.declared.root.Root.{Root}
 use Rattle.qx_geom.specs.Layout.{levels_for}
-use Rattle.qx_geom.specs.Pointer.{absent, ceil_div}
+use Rattle.qx_geom.specs.Pointer.{ceil_div}
 use Rattle.qx_geom.proofs.LeastLevels.{levels_for-le}
-use Rattle.qx_blocks.specs.BlockState.{BlockState}
-use Rattle.qx_ptree.specs.Trees.{IsRegular, IsWorking}
-
--- it has no pointer
-abbrev pub empty_node : Root
-empty_node = record { size = 0; pointers = replicate 16 absent; levels = 0 }
+use Rattle.qx_blocks.specs.BlockState.{BlockState, IsBlockSize}
+use Rattle.qx_ptree.specs.Trees.{IsRegular, IsWorking, empty_node}
+use Rattle.qx_ptree.proofs.PointerCounts.{size_positive}
 
 -- it has no leaf
 no_leaves : (b : ℕ) → 0 < b → ceil_div 0 b ≡ 0
@@ -25,9 +21,9 @@ no_levels b some =
     omega arith
 
 -- so it is as this project writes nodes
-pub empty-regular : (order : Order) (m : BlockState) → 0 < m.holdings.size → IsRegular order m empty_node
-empty-regular order m some = record {
-  plain = ap (λ l. not (0 == l) || false) (no_levels m.holdings.size some);
+pub empty-regular : (order : Order) (m : BlockState) → IsBlockSize m.holdings.size → IsRegular order m empty_node
+empty-regular order m is = record {
+  plain = ap (λ l. not (0 == l) || false) (no_levels m.holdings.size (size_positive m.holdings.size is));
   apart = λ u v c d e. absurd (omega (arith, c.1));
 }
 

@@ -58,3 +58,4 @@ pub mod FirstHoles
 pub mod AgreeingPointers
 pub mod KeptNodes
 pub mod WaitingChanges
+pub mod NodePositions

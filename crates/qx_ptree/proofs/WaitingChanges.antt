@@ -117,7 +117,7 @@ left_others order changed p m n l own met = record {
 
 -- what is left as it was has its node
 left_keeps : (order : Order) (p : Preparation) (m n : BlockState) → AsLeft order p m n → KeepsNode order m n p.node
-left_keeps order p m n left = record { size = left.size; count = left.count; works = λ v c was. (left.others v c).works ∙ was; bytes = λ v c. (left.others v c).bytes }
+left_keeps order p m n left = record { size = left.size; count = left.count; works = λ v c was. (left.others v c).works ∙ was; private = λ v c. (left.others v c).private; bytes = λ v c. (left.others v c).bytes }
 
 -- one call after another
 pub left_then : (order : Order) (p : Preparation) (m n o : BlockState) → AsLeft order p m n → AsLeft order p n o → AsLeft order p m o

@@ -6,9 +6,10 @@ use Rattle.qx_nodes.specs.Visits.{Visit, visits_of}
 use Rattle.qx_blocks.specs.BlockState.{BlockState}
 use Rattle.qx_ptree.specs.Trees.{block_map}
 
--- the blocks that a node meets are the working tree's as they were, and have the bytes that they had
+-- the blocks that a node meets are the working tree's as they were, private where they were, and have the bytes that they had
 pub record KeepsNode (order : Order) (m n : BlockState) (node : Root) : Type 0 where
   pub size : n.holdings.size ≡ m.holdings.size
   pub count : n.holdings.count ≡ m.holdings.count
   pub works : (v : Visit) → Contains (visits_of (block_map order m) node) v → IsTrue (m.holdings.works v.block) → IsTrue (n.holdings.works v.block)
+  pub private : (v : Visit) → Contains (visits_of (block_map order m) node) v → n.holdings.private v.block ≡ m.holdings.private v.block
   pub bytes : (v : Visit) → Contains (visits_of (block_map order m) node) v → n.bytes v.block ≡ m.bytes v.block

@@ -1,5 +1,5 @@
 -- A node's tree over blocks of which the working tree holds some.
-use Rattle.std.specs.Prelude.{◌≡◌, ℕ, zero, suc, ◌-◌, ◌*◌, ◌/◌, ◌%◌, ◌^◌, ◌≤◌, false, Option, Some, None, nat_lt, ◌==◌, if◌then◌else◌, slice_index_or, IsTrue, Contains}
+use Rattle.std.specs.Prelude.{◌≡◌, ℕ, zero, suc, ◌-◌, ◌*◌, ◌/◌, ◌%◌, ◌^◌, ◌≤◌, false, Option, Some, None, nat_lt, ◌==◌, if◌then◌else◌, length, replicate, slice_index_or, IsTrue, Contains}
 use Rattle.qx_fields.specs.declared.order.Order.{Order}
 use Rattle.qx_geom.specs.declared.root.Root.{Root}
 use Rattle.qx_geom.specs.Pointer.{absent, per_block, reach}
@@ -7,7 +7,7 @@ use Rattle.qx_nodes.specs.BlockMap.{BlockMap, word}
 use Rattle.qx_nodes.specs.ForeignNodes.{is_foreign_node}
 use Rattle.qx_nodes.specs.Leaves.{Leaf, Block, Hole}
 use Rattle.qx_nodes.specs.Visits.{Visit, visits_of}
-use Rattle.qx_blocks.specs.BlockState.{BlockState}
+use Rattle.qx_blocks.specs.BlockState.{BlockState, IsConsistent}
 
 -- the blocks that pointers speak of, their numbers in this order of bytes
 abbrev pub block_map : Order → BlockState → BlockMap
@@ -26,6 +26,28 @@ IsWorking order m node = (v : Visit) → Contains (visits_of (block_map order m)
 pub record IsRegular (order : Order) (m : BlockState) (node : Root) : Type 0 where
   pub plain : is_foreign_node (block_map order m) node ≡ false
   pub apart : (u v : Visit) → Contains (visits_of (block_map order m) node) u → Contains (visits_of (block_map order m) node) v → u.block ≡ v.block → u ≡ v
+
+-- a node that can be asked and changed: its levels reach its size; where bytes are told, its pointers lead to blocks of the working tree, and it is as this project writes nodes
+pub record IsNode (order : Order) (m : BlockState) (node : Root) : Type 0 where
+  pub levels : HasLevels m.holdings.size node
+  pub works : IsTrue m.tells → IsWorking order m node
+  pub regular : IsTrue m.tells → IsRegular order m node
+
+-- such a node where bytes are told, with its 16 pointers, over consistent blocks
+pub record IsToldNode (order : Order) (m : BlockState) (node : Root) : Type 0 where
+  pub consistent : IsConsistent m
+  pub sixteen : length node.pointers ≡ 16
+  pub levels : HasLevels m.holdings.size node
+  pub works : IsWorking order m node
+  pub regular : IsRegular order m node
+
+-- no block stands in both nodes
+abbrev pub AreApart : Order → BlockState → Root → Root → Type 0
+AreApart order m node other = (u v : Visit) → Contains (visits_of (block_map order m) node) u → Contains (visits_of (block_map order m) other) v → ¬ (u.block ≡ v.block)
+
+-- the node of nothing
+abbrev pub empty_node : Root
+empty_node = record { size = 0; pointers = replicate 16 absent; levels = 0 }
 
 -- ---- leaves
 

@@ -1,27 +1,58 @@
 //! Laws of what leaves a node, a change that waits for its commit, and leaves that are ready.
-ghost use Rattle.std.specs.Prelude.{◌≡◌, ℕ, true, false, not, List, IsTrue, Contains};
+ghost use Rattle.std.specs.Prelude.{◌≡◌, ℕ, ◌<◌, true, false, not, List, IsTrue, Contains};
 ghost use Rattle.std.specs.List.{list_any};
 ghost use Rattle.qx_fields.specs.declared.order.Order.{Order};
 ghost use Rattle.qx_geom.specs.declared.root.Root.{Root};
 ghost use Rattle.qx_geom.specs.Lists.{is_in};
-ghost use Rattle.qx_nodes.specs.Content.{leaf_bytes};
+ghost use Rattle.qx_geom.specs.Positions.{HasPosition};
+ghost use Rattle.qx_nodes.specs.Content.{content_of, leaf_bytes, piece_of};
 ghost use Rattle.qx_nodes.specs.Visits.{LiesBelow, Visit, visits_of};
-ghost use Rattle.qx_blocks.specs.BlockState.{BlockState, IsConsistent};
+ghost use Rattle.qx_blocks.specs.BlockState.{BlockState, IsBlockSize, IsConsistent};
 ghost use Rattle.qx_ptree.specs.declared.change.Change.{Change};
+ghost use Rattle.qx_ptree.specs.Alterations.{alteration_of, fresh_count, shape_in};
 ghost use Rattle.qx_ptree.specs.Altered.{AsLeft, IsPrepared};
 ghost use Rattle.qx_ptree.specs.KeptNodes.{KeepsNode};
 ghost use Rattle.qx_ptree.specs.ReadyLeaves.{IsReadyApart, IsWrittenBy, OwnAsLeft, StandIn};
 ghost use Rattle.qx_ptree.specs.Takings.{LeavesOthers, Takes};
-ghost use Rattle.qx_ptree.specs.Trees.{IsRegular, IsWorking, block_map};
-ghost use Rattle.qx_ptree.specs.WorkState.{CanCommit, Preparation, blocks_of};
+ghost use Rattle.qx_ptree.specs.Trees.{HasLevels, IsRegular, IsToldNode, IsWorking, block_map, empty_node, pointer_at};
+ghost use Rattle.qx_ptree.specs.WorkState.{CanCommit, Preparation, blocks_of, committed};
 
-/// Where the blocks that a node meets stay, it meets the same, is as regular as it was, and has the same leaves.
+/// The node of nothing can be asked and changed, as `IsNode` says it.
+pub fn an_empty_node_is_a_node()
+    ensures levels { (blocksize : ℕ) → HasLevels blocksize empty_node }
+    ensures works { (order : Order) (m : BlockState) → IsWorking order m empty_node }
+    ensures regular { (order : Order) (m : BlockState) → IsBlockSize m.holdings.size → IsRegular order m empty_node }
+{}
+
+/// A node's positions are those at which something is met, each with its block.
+pub fn a_nodes_positions_are_met()
+    ensures met { (order : Order) (m : BlockState) (node : Root) (k j : ℕ) → IsToldNode order m node → HasPosition m.holdings.size (shape_in (block_map order m) node) k j
+        → Contains (visits_of (block_map order m) node) (record { level = k; index = j; block = pointer_at (block_map order m) node k j }) }
+    ensures at { (order : Order) (m : BlockState) (node : Root) (v : Visit) → IsToldNode order m node → Contains (visits_of (block_map order m) node) v
+        → HasPosition m.holdings.size (shape_in (block_map order m) node) v.level v.index × (v.block ≡ pointer_at (block_map order m) node v.level v.index) }
+{}
+
+/// Where the blocks that a node meets stay, it meets the same, is as regular as it was, and has the same leaves and bytes; and a change makes the same of it, with the same need.
 pub fn a_node_stays_with_its_blocks()
     ensures visits { (order : Order) (m n : BlockState) (node : Root) → KeepsNode order m n node → visits_of (block_map order n) node ≡ visits_of (block_map order m) node }
     ensures works { (order : Order) (m n : BlockState) (node : Root) → KeepsNode order m n node → IsWorking order m node → IsWorking order n node }
     ensures regular { (order : Order) (m n : BlockState) (node : Root) → IsConsistent m → KeepsNode order m n node → IsWorking order m node → IsRegular order m node → IsRegular order n node }
     ensures leaves { (order : Order) (m n : BlockState) (node : Root) (i : ℕ) → KeepsNode order m n node → LiesBelow (block_map order m) node i
         → leaf_bytes (block_map order n) node i ≡ leaf_bytes (block_map order m) node i }
+    ensures then { (order : Order) (m n o : BlockState) (node : Root) → KeepsNode order m n node → KeepsNode order n o node → KeepsNode order m o node }
+
+    // Where bytes are told.
+    ensures told { (order : Order) (m n : BlockState) (node : Root) → IsConsistent n → KeepsNode order m n node → IsToldNode order m node → IsToldNode order n node }
+    ensures pointers { (order : Order) (m n : BlockState) (node : Root) (k j : ℕ) → IsConsistent n → KeepsNode order m n node → IsToldNode order m node
+        → pointer_at (block_map order n) node k j ≡ pointer_at (block_map order m) node k j }
+    ensures alteration { (order : Order) (m n : BlockState) (node : Root) (c : Change) → IsConsistent n → KeepsNode order m n node → IsToldNode order m node
+        → alteration_of order n node c ≡ alteration_of order m node c }
+    ensures need { (order : Order) (m n : BlockState) (node : Root) (c : Change) → IsConsistent n → KeepsNode order m n node → IsToldNode order m node
+        → fresh_count (alteration_of order n node c) ≡ fresh_count (alteration_of order m node c) }
+    ensures content { (order : Order) (m n : BlockState) (node : Root) → KeepsNode order m n node → IsToldNode order m node
+        → content_of (block_map order n) node ≡ content_of (block_map order m) node }
+    ensures piece { (order : Order) (m n : BlockState) (node : Root) (at count : ℕ) → KeepsNode order m n node → IsToldNode order m node → at < node.size
+        → piece_of (block_map order n) node at count ≡ piece_of (block_map order m) node at count }
 {}
 
 /// They stay where blocks are taken, as for another change, and where only blocks change that the node doesn't meet.

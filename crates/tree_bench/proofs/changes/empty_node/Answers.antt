@@ -1,5 +1,4 @@
 use Rattle.std.proofs.Common.{arith, rules}
-use Rattle.qx_ptree.proofs.PointerCounts.{size_positive}
 use Rattle.qx_ptree.proofs.EmptyNodes.{empty-regular, empty-works}
 use Rattle.tree_bench.proofs.changes.empty_node.Goals as goal
 
@@ -9,5 +8,5 @@ returns g c =
     record {
       levels = search (rules, arith);
       works = λ _. empty-works c.args.order m;
-      regular = λ _. empty-regular c.args.order m (size_positive m.holdings.size c.size-size.ensures.consistent.size);
+      regular = λ _. empty-regular c.args.order m c.size-size.ensures.consistent.size;
     }

@@ -1,7 +1,6 @@
 use Rattle.qx_fields.specs.declared.order.Order.TheVariants.{Little}
 use Rattle.qx_ptree.proofs.EmptyNodes.{empty-regular}
-use Rattle.qx_ptree.proofs.PointerCounts.{size_positive}
 use Rattle.block_tests.proofs.ptree.needs.need_of_empty.Goals as goal
 
 pub need-requires-clause-regular : goal.need-requires-clause-regular
-need-requires-clause-regular g c told = empty-regular Little (g.B.Blocks.state c.args.blocks.now) (size_positive (g.B.Blocks.state c.args.blocks.now).holdings.size c.requires.blocksize)
+need-requires-clause-regular g c told = empty-regular Little (g.B.Blocks.state c.args.blocks.now) c.requires.blocksize
