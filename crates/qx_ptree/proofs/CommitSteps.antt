@@ -135,6 +135,10 @@ module _ (m : BlockState) (p : Preparation) where
     pub committed-works : (committed m p).holdings.works q ≡ m.holdings.works q
     committed-works = (without-others (with_edits m p.work.edits) p.work.released q stays).works ∙ ap (λ h. h.works q) (edits_holdings m p.work.edits)
 
+    -- and alone where it did
+    pub committed-private : (committed m p).holdings.private q ≡ m.holdings.private q
+    committed-private = (without-others (with_edits m p.work.edits) p.work.released q stays).private ∙ ap (λ h. h.private q) (edits_holdings m p.work.edits)
+
     -- which stay ready
     pub committed-ready : IsTrue (m.holdings.ready q) → IsTrue ((committed m p).holdings.ready q)
     committed-ready t = (without-others (with_edits m p.work.edits) p.work.released q stays).ready (subst (λ h. IsTrue (h.ready q)) (sym (edits_holdings m p.work.edits)) t)

@@ -20,8 +20,9 @@ use Rattle.qx_ptree.specs.Altered.{AsLeft, IsSameBlock, keeps_block}
 use Rattle.qx_ptree.specs.Building.{Shows, is_kept}
 use Rattle.qx_ptree.specs.Plans.{alteration_in, planned_pointer}
 use Rattle.qx_ptree.specs.WorkState.{EditState, WorkState}
-use Rattle.qx_ptree.proofs.BuiltNodes.{IsBuilt, blocks_after, built, edit-at, edit-fresh, edit-stays, fresh-stays, kept-old, kept-stays, kept-there, lost-released, new-under, old-bytes, old-visit, old-visits, old-works, own-fresh-block, own-kept-block, own_row, passes_first, passes_second}
-use Rattle.qx_ptree.proofs.CommitSteps.{committed-bytes, committed-edit, committed-gone, committed-ready, committed-works}
+use Rattle.qx_ptree.proofs.BuiltNodes.{IsBuilt, blocks_after, built, edit-at, edit-fresh, edit-stays, fresh-stays, kept-old, kept-stays, kept-there, lost-released, new-under, old-bytes, old-held, old-visit, old-visits, old-works, own-fresh-block, own-kept-block, own_row, passes_first, passes_second}
+use Rattle.qx_ptree.proofs.CarriedPlans.{private_after}
+use Rattle.qx_ptree.proofs.CommitSteps.{committed-bytes, committed-edit, committed-gone, committed-private, committed-ready, committed-works}
 
 -- ---- untouched positions
 
@@ -73,6 +74,14 @@ module _ (m n : BlockState) (plan : Plan) (root : Root) (outside : List ℕ) (re
       let there : q ≢ absent = kept-old m n plan root outside rest b k j keeps in
       let before : n.holdings.works q ≡ true = b.takes.works q ∙ ap (λ t. t || is_in rest.fresh q) (old-works m n plan root outside rest b k j there) in
       committed-works mid (built plan root outside rest) q (kept-stays m n plan root outside rest b k j keeps) ∙ (old-same k j there).works ∙ before
+
+  -- which holds it alone where it did
+  pub committed-old-private : (k j : ℕ) → keeps_block (alteration_in plan m) k j ≡ true → (blocks_after plan root outside rest mid).holdings.private (planned_pointer plan m k j) ≡ m.holdings.private (planned_pointer plan m k j)
+  committed-old-private k j keeps =
+      let q : ℕ = planned_pointer plan m k j in
+      let there : q ≢ absent = kept-old m n plan root outside rest b k j keeps in
+      committed-private mid (built plan root outside rest) q (kept-stays m n plan root outside rest b k j keeps)
+      ∙ (old-same k j there).private ∙ private_after rest.fresh m n q b.takes (old-held m n plan root outside rest b k j there)
 
   -- where it is touched it was made ready
   pub kept-own : (k j : ℕ) → is_kept (alteration_in plan m) k j ≡ true → is_in rest.kept (planned_pointer plan m k j) ≡ true

@@ -59,3 +59,6 @@ pub mod AgreeingPointers
 pub mod KeptNodes
 pub mod WaitingChanges
 pub mod NodePositions
+pub mod FreshPositions
+pub mod AlteredNodes
+pub mod SeveralChanges

@@ -25,16 +25,27 @@ use Rattle.qx_ptree.specs.Plans.{IsPlan, alteration_in, planned_pointer}
 use Rattle.qx_ptree.specs.Takings.{Adds, Takes}
 use Rattle.qx_ptree.specs.Trees.{block_map, pointer_at}
 use Rattle.qx_ptree.specs.WorkState.{WorkState, and_then, blocks_of, no_work}
-use Rattle.qx_ptree.proofs.BuiltNodes.{IsBuilt, blocks_after, built, kept-old, map_with, old-visit, own-fresh-block, own-kept-block, own_row, released-lost, stale-keeps}
+use Rattle.qx_ptree.proofs.BuiltBlocks.{altered_ascends}
+use Rattle.qx_ptree.proofs.BuiltNodes.{IsBuilt, blocks_after, built, kept-old, map_with, old-visit, own-fresh-block, own-kept-block, own_row, lost-released, released-lost, stale-keeps}
 use Rattle.qx_ptree.proofs.CommitSteps.{committed-count, committed-size}
-use Rattle.qx_ptree.proofs.CommittedBlocks.{committed-fresh, committed-fresh-ready, committed-fresh-works, committed-kept-ready, committed-lost, committed-old, committed-old-works, committed-shows, kept-own}
+use Rattle.qx_ptree.proofs.CommittedBlocks.{committed-fresh, committed-fresh-ready, committed-fresh-works, committed-kept-ready, committed-lost, committed-old, committed-old-private, committed-old-works, committed-shows, kept-own}
+use Rattle.qx_ptree.proofs.FreshPositions.{each_stands}
 use Rattle.qx_ptree.proofs.LeafParts.{in_written-is, written-present}
 use Rattle.qx_ptree.proofs.MetPositions.{IsAt, visit_at}
 use Rattle.qx_ptree.proofs.NewNodes.{new-leaf-bytes, new-native, new-present, new-visits-apart, old-leaf-bytes, visit-there}
-use Rattle.qx_ptree.proofs.NewPositions.{placed}
+use Rattle.qx_ptree.proofs.NewPositions.{new-apart, placed}
 use Rattle.qx_ptree.proofs.PointerCounts.{size_positive, words_positive}
 use Rattle.qx_ptree.proofs.SumsBelow.{sum_by-below, sum_up_to}
 use Rattle.qx_ptree.proofs.WholeNeed.{new-reached, whole-need}
+
+-- ---- the need
+
+-- a change takes as many fresh blocks as it needs
+as-needed : (m n : BlockState) (plan : Plan) (root : Root) (outside : List ℕ) (rest : WorkState) → IsBuilt m n plan root outside rest → length rest.fresh ≡ fresh_count (alteration_in plan m)
+as-needed m n plan root outside rest b =
+    let a : Alteration = alteration_in plan m in
+    b.builds.count ∙ sum_by-below (fresh_below a root.levels) 16 ∙ ap (λ l. sum_up_to 16 (fresh_below a l)) b.levels
+    ∙ sym (whole-need a (words_positive m.holdings.size b.told.consistent.size) (new-reached m.holdings.size (shape_in (block_map plan.order m) plan.node) plan.change (size_positive m.holdings.size b.told.consistent.size) b.told.met.change))
 
 -- ---- what the commit makes
 
@@ -131,6 +142,7 @@ module _ (m n : BlockState) (plan : Plan) (root : Root) (outside : List ℕ) (re
   -- the node has become the one that the change makes of it
   pub alters : Alters plan.order m (built plan root outside rest) (blocks_after plan root outside rest mid)
   alters = record {
+    blocksize = long-as;
     size = b.size;
     levels = b.levels;
     present = ap (λ t. present_of t root) same-map ∙ new-present m n plan root outside rest b (blocks_after plan root outside rest mid).bytes shown;
@@ -143,6 +155,10 @@ module _ (m n : BlockState) (plan : Plan) (root : Root) (outside : List ℕ) (re
     };
     stays = λ k j keeps. (at-place k j).stays keeps;
     fresh = λ k j there f. (at-place k j).fresh there f;
+    all_fresh = λ q f. each_stands (alteration_in plan m) (pointer_at (block_map plan.order (blocks_after plan root outside rest mid)) root) rest.fresh (altered_ascends m plan b.told) (as-needed m n plan root outside rest b)
+        (λ k j there f. (at-place k j).fresh there f)
+        (λ k j h i there too is. new-apart m n plan root outside rest b (blocks_after plan root outside rest mid).bytes shown k j h i there too
+        ((λ t. pointer_at (sym same-map t) root k j) ∙ is ∙ (λ t. pointer_at (same-map t) root h i))) q f;
     bytes = λ i there. ap (λ t. leaf_bytes t root i) same-map ∙ bytes-at i there;
     ready = λ i w k level.
         subst (λ s. IsTrue ((blocks_after plan root outside rest mid).holdings.ready (pointer_at (block_map plan.order (blocks_after plan root outside rest mid)) root k (index_above s k i)))) (sym long-as)
@@ -151,18 +167,13 @@ module _ (m n : BlockState) (plan : Plan) (root : Root) (outside : List ℕ) (re
     given_up = λ v c lost.
         let at : IsAt (block_map plan.order m) plan.node v = visit_at (block_map plan.order m) plan.node v c in
         ap (blocks_after plan root outside rest mid).holdings.works at.block ∙ committed-lost m n plan root outside rest b mid left v.level v.index (λ e. at.there (at.block ∙ e)) lost;
+    fresh_ready = λ k j there f. committed-fresh-ready m n plan root outside rest b mid left (pointer_at (block_map plan.order (blocks_after plan root outside rest mid)) root k j) ((at-place k j).fresh there f);
+    stays_private = λ k j keeps. ap (blocks_after plan root outside rest mid).holdings.private ((at-place k j).stays keeps) ∙ committed-old-private m n plan root outside rest b mid left k j keeps;
   }
 
 -- ---- the preparation
 
 module _ (m n : BlockState) (plan : Plan) (root : Root) (outside : List ℕ) (rest : WorkState) (b : IsBuilt m n plan root outside rest) where
-  -- it took as many fresh blocks as it needs
-  as-needed : length rest.fresh ≡ fresh_count (alteration_in plan m)
-  as-needed =
-      let a : Alteration = alteration_in plan m in
-      b.builds.count ∙ sum_by-below (fresh_below a root.levels) 16 ∙ ap (λ l. sum_up_to 16 (fresh_below a l)) b.levels
-      ∙ sym (whole-need a (words_positive m.holdings.size b.told.consistent.size) (new-reached m.holdings.size (shape_in (block_map plan.order m) plan.node) plan.change (size_positive m.holdings.size b.told.consistent.size) b.told.met.change))
-
   -- a block of the old node, by its position
   its-visit : (k j q : ℕ) → planned_pointer plan m k j ≡ q → planned_pointer plan m k j ≢ absent → (v : Visit) × Contains (visits_of (block_map plan.order m) plan.node) v × (v.block ≡ q)
   its-visit k j q is there = (record { level = k; index = j; block = planned_pointer plan m k j }, old-visit m n plan root outside rest b k j there, is)
@@ -183,7 +194,19 @@ module _ (m n : BlockState) (plan : Plan) (root : Root) (outside : List ℕ) (re
 
   -- so it is prepared
   is-prepared : IsPrepared plan.order m n (built plan root outside rest)
-  is-prepared = record { need = as-needed; blocks = its-blocks; commits = λ mid left. alters m n plan root outside rest b mid left }
+  is-prepared = record {
+    change = b.told.met.change;
+    sixteen = b.long;
+    need = as-needed m n plan root outside rest b;
+    blocks = its-blocks;
+    released = λ q g.
+        let r : (k : ℕ) × (j : ℕ) × (planned_pointer plan m k j ≡ q) × (planned_pointer plan m k j ≢ absent) × (keeps_block (alteration_in plan m) k j ≡ false) = released-lost m n plan root outside rest b q g in
+        (record { level = r.0; index = r.1; block = planned_pointer plan m r.0 r.1 }, old-visit m n plan root outside rest b r.0 r.1 r.3, r.2, r.4);
+    lost = λ v c gone.
+        let at : IsAt (block_map plan.order m) plan.node v = visit_at (block_map plan.order m) plan.node v c in
+        ap (is_in (outside ++ rest.released)) at.block ∙ lost-released m n plan root outside rest b v.level v.index (λ e. at.there (at.block ∙ e)) gone;
+    commits = λ mid left. alters m n plan root outside rest b mid left;
+  }
 
 -- where the parts of a node were prepared below the new pointers, and what stands elsewhere is to be given up, the node is prepared
 pub tree-is-prepared : (m n : BlockState) (plan : Plan) (work : WorkState) (root : Root) → IsConsistent m → IsConsistent n → length plan.node.pointers ≡ 16 → length root.pointers ≡ 16 → IsPlan m plan → IsTrue n.tells

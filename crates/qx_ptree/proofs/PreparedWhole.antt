@@ -1,17 +1,12 @@
 -- What the preparation of a whole node answers where the work before it was none.
-use Rattle.std.proofs.Common.{◌≡◌, ℕ, ◌+◌, ◌-◌, ◌*◌, ◌<◌, ◌≤◌, length, refl, sym, ◌∙◌, ap, subst, arith}
+use Rattle.std.proofs.Common.{◌≡◌, length, refl, sym, ◌∙◌, ap, subst}
 use Rattle.std.specs.Prelude.{slice_index, IsTrue}
-use Rattle.std.proofs.Math.Nat.{div-lt_iff_lt-mul}
-use Rattle.qx_geom.proofs.LeastLevels.{levels_for-reach}
 use Rattle.qx_geom.specs.declared.root.Root.{Root}
-use Rattle.qx_geom.specs.Layout.{levels_for}
 use Rattle.qx_geom.specs.Lists.{Distinct}
-use Rattle.qx_geom.specs.Pointer.{ceil_div, reach}
 use Rattle.qx_blocks.specs.BlockState.{BlockState, IsConsistent}
 use Rattle.qx_ptree.specs.declared.fresh_blocks.Plan.{Plan}
 use Rattle.qx_ptree.specs.Altered.{IsPrepared}
 use Rattle.qx_ptree.specs.BuiltNode.{BuildsNode}
-use Rattle.qx_ptree.specs.Fates.{leaves_after}
 use Rattle.qx_ptree.specs.Plans.{IsPlan}
 use Rattle.qx_ptree.specs.Reaching.{ReachesOnto}
 use Rattle.qx_ptree.specs.ReadyLeaves.{IsReadyApart, IsWrittenBy, OwnAsLeft, StandIn}
@@ -21,11 +16,7 @@ use Rattle.qx_ptree.specs.WorkState.{CanCommit, CanEdit, Preparation, WorkState,
 use Rattle.qx_ptree.proofs.PointerCounts.{size_positive, words_positive}
 use Rattle.qx_ptree.proofs.PreparedNodes.{added-is-prepared, added-takes}
 use Rattle.qx_ptree.proofs.ReachedSteps.{ready_prepared, stand_prepared}
-use Rattle.qx_ptree.proofs.WholeNeed.{leaves-reached, new-levels}
-
--- a size lies below as many leaves as it takes
-size-below : (n p most : ℕ) → 0 < p → ceil_div n p ≤ most → n ≤ most * p
-size-below n p most some low = let far : n + p - 1 < (most + 1) * p = (div-lt_iff_lt-mul some).0 (omega (arith, low)) in omega (arith, far)
+use Rattle.qx_ptree.proofs.WholeNeed.{levels-reach}
 
 -- the preparation of a plan's node
 abbrev pub whole_of : Plan → Root → WorkState → Preparation
@@ -38,13 +29,7 @@ module _ (m n : BlockState) (plan : Plan) (before work : WorkState) (root : Root
 
   -- the levels reach the size
   pub whole-levels : HasLevels m.holdings.size root
-  whole-levels =
-      let size : ℕ = m.holdings.size in
-      let some : 0 < size = size_positive size s.size in
-      let leaves : ℕ = leaves_after size plan.change in
-      let far : leaves ≤ reach size (levels_for size leaves) = levels_for-reach size leaves 5 (omega arith) (leaves-reached size plan.change some met.change) in
-      let low : plan.change.size ≤ reach size root.levels * size = size-below plan.change.size size (reach size root.levels) some (subst (λ l. leaves ≤ reach size l) (sym b.levels) far) in
-      record { most = omega (arith, b.levels, new-levels size plan.change some met.change); reached = omega (arith, b.size, low) }
+  whole-levels = levels-reach m.holdings.size root plan.change s.size met.change b.size b.levels
 
   -- its fresh blocks were taken
   pub whole-takes : Takes work.fresh m n

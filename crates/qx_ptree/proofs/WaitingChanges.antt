@@ -1,5 +1,5 @@
 -- What leaves a change that waits for its commit as it was.
-use Rattle.std.proofs.Common.{◌≡◌, ℕ, List, [], ◌∷◌, inl, inr, sym, ◌∙◌, ap, subst}
+use Rattle.std.proofs.Common.{◌≡◌, ℕ, List, [], ◌∷◌, inl, inr, refl, sym, ◌∙◌, ap, subst}
 use Rattle.std.specs.Prelude.{true, false, not, ◌||◌, Bool, IsTrue, Contains}
 use Rattle.std.specs.List.{list_any}
 use Rattle.std.proofs.Math.Bool.{or-false}
@@ -116,7 +116,7 @@ left_others order changed p m n l own met = record {
 }
 
 -- what is left as it was has its node
-left_keeps : (order : Order) (p : Preparation) (m n : BlockState) → AsLeft order p m n → KeepsNode order m n p.node
+pub left_keeps : (order : Order) (p : Preparation) (m n : BlockState) → AsLeft order p m n → KeepsNode order m n p.node
 left_keeps order p m n left = record { size = left.size; count = left.count; works = λ v c was. (left.others v c).works ∙ was; private = λ v c. (left.others v c).private; bytes = λ v c. (left.others v c).bytes }
 
 -- one call after another
@@ -127,3 +127,14 @@ left_then order p m n o f g = record {
   own = λ b h. same_after m n o b (f.own b h) (g.own b h);
   others = λ v c. same_after m n o v.block (f.others v c) (g.others v (subst (λ vs. Contains vs v) (sym (visits_kept order m n p.node (left_keeps order p m n f))) c));
 }
+
+-- it is as it was where nothing was done
+pub left_same : (order : Order) (p : Preparation) (m : BlockState) → AsLeft order p m m
+left_same order p m = record { size = refl; count = refl; own = λ b h. same_block b; others = λ v c. same_block v.block }
+  where
+    same_block : (b : ℕ) → IsSameBlock m m b
+    same_block b = record { held = refl; works = refl; private = refl; ready = λ h. h; bytes = refl }
+
+-- whether bytes are told or not
+pub own_same : (p : Preparation) (m : BlockState) → OwnAsLeft p m m
+own_same p m = record { size = refl; count = refl; ready = λ b h was. was; bytes = λ b h was. refl }

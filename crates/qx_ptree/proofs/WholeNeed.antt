@@ -2,25 +2,29 @@
 use Rattle.std.proofs.Common.{◌≡◌, ℕ, ◌+◌, ◌-◌, ◌*◌, ◌/◌, ◌^◌, ◌<◌, ◌≤◌, inl, inr, sym, ◌∙◌, ap, subst, arith}
 use Rattle.std.specs.Prelude.{true, ◌==◌, count_by, length}
 use Rattle.std.specs.Int.{div_ceil}
-use Rattle.std.proofs.Math.Nat.{div-div-eq-div-mul, one-le-pow}
+use Rattle.std.proofs.Math.Nat.{div-div-eq-div-mul, div-lt_iff_lt-mul, one-le-pow}
 use Rattle.std.proofs.lemmas.Nat.{div_below, pow-add}
 use Rattle.qx_geom.proofs.ImagesAndFilters.{filter_in}
 use Rattle.qx_geom.proofs.LeastLevels.{levels_for-le, levels_for-reach}
 use Rattle.qx_geom.proofs.LeastTouch.{leaf_below}
 use Rattle.qx_geom.proofs.LevelCounts.{ceil_div-is, ceil_div-le}
 use Rattle.qx_geom.proofs.PresentLeaves.{present_after_members}
+use Rattle.qx_geom.specs.declared.root.Root.{Root}
 use Rattle.qx_geom.specs.Layout.{levels_for}
 use Rattle.qx_geom.specs.Lists.{is_in}
 use Rattle.qx_geom.specs.Pointer.{ceil_div, per_block, reach}
 use Rattle.qx_geom.specs.Positions.{Shape, at_level, index_above}
 use Rattle.qx_geom.specs.Touch.{is_fresh, need_of}
+use Rattle.qx_blocks.specs.BlockState.{IsBlockSize}
 use Rattle.qx_ptree.specs.declared.change.Change.{Change}
 use Rattle.qx_ptree.specs.declared.part.Part.{Part}
 use Rattle.qx_ptree.specs.Alterations.{Alteration, fresh_count}
 use Rattle.qx_ptree.specs.Fates.{IsChange, leaves_after, written_by}
 use Rattle.qx_ptree.specs.Parts.{fresh_positions, part_of}
+use Rattle.qx_ptree.specs.Trees.{HasLevels}
 use Rattle.qx_ptree.proofs.LeafParts.{in_written-is, new_shape}
 use Rattle.qx_ptree.proofs.PartsOfBlocks.{fresh-levels}
+use Rattle.qx_ptree.proofs.PointerCounts.{size_positive}
 use Rattle.qx_ptree.proofs.SumsBelow.{count_all, sum_by-below, sum_up_to, sum_up_to-alike, sum_up_to-more, sum_up_to-turned}
 
 -- ---- the parts of the whole
@@ -82,3 +86,16 @@ new-reached blocksize old c some change i m =
     let low : i < leaves_after blocksize c = new-below blocksize old c i change m in
     let far : leaves_after blocksize c ≤ reach blocksize (levels_for blocksize (leaves_after blocksize c)) = levels_for-reach blocksize (leaves_after blocksize c) 5 (omega arith) (leaves-reached blocksize c some change) in
     omega (arith, low, far)
+
+-- a size lies below as many leaves as it takes
+size-below : (n p most : ℕ) → 0 < p → ceil_div n p ≤ most → n ≤ most * p
+size-below n p most some low = let far : n + p - 1 < (most + 1) * p = (div-lt_iff_lt-mul some).0 (omega (arith, low)) in omega (arith, far)
+
+-- and its levels reach its size
+pub levels-reach : (size : ℕ) (root : Root) (c : Change) → IsBlockSize size → IsChange size c → root.size ≡ c.size → root.levels ≡ levels_for size (leaves_after size c) → HasLevels size root
+levels-reach size root c is change size_is levels =
+    let some : 0 < size = size_positive size is in
+    let leaves : ℕ = leaves_after size c in
+    let far : leaves ≤ reach size (levels_for size leaves) = levels_for-reach size leaves 5 (omega arith) (leaves-reached size c some change) in
+    let low : c.size ≤ reach size root.levels * size = size-below c.size size (reach size root.levels) some (subst (λ l. leaves ≤ reach size l) (sym levels) far) in
+    record { most = omega (arith, levels, new-levels size c some change); reached = omega (arith, size_is, low) }

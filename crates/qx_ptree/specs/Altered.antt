@@ -9,7 +9,7 @@ use Rattle.qx_nodes.specs.Content.{leaf_bytes}
 use Rattle.qx_nodes.specs.Visits.{Visit, present_of, visits_of}
 use Rattle.qx_blocks.specs.BlockState.{BlockState}
 use Rattle.qx_ptree.specs.Alterations.{Alteration, alteration_of, fresh_count}
-use Rattle.qx_ptree.specs.Fates.{is_written}
+use Rattle.qx_ptree.specs.Fates.{IsChange, is_written}
 use Rattle.qx_ptree.specs.Trees.{IsRegular, IsWorking, block_map, pointer_at}
 use Rattle.qx_ptree.specs.WorkState.{Preparation, blocks_of, committed}
 
@@ -46,6 +46,7 @@ pub record AsLeft (order : Order) (p : Preparation) (m n : BlockState) : Type 0 
 
 -- over the blocks m the node has become the one that the change makes of the node over the blocks `old`
 pub record Alters (order : Order) (old : BlockState) (p : Preparation) (m : BlockState) : Type 0 where
+  pub blocksize : m.holdings.size ≡ old.holdings.size
   pub size : p.root.size ≡ p.change.size
   pub levels : p.root.levels ≡ (prepared_alteration order old p).new.levels
   pub present : present_of (block_map order m) p.root ≡ (prepared_alteration order old p).new.present
@@ -55,6 +56,8 @@ pub record Alters (order : Order) (old : BlockState) (p : Preparation) (m : Bloc
       → pointer_at (block_map order m) p.root k j ≡ pointer_at (block_map order old) p.node k j
   pub fresh : (k j : ℕ) → HasPosition old.holdings.size (prepared_alteration order old p).new k j → takes_fresh (prepared_alteration order old p) k j ≡ true
       → is_in p.work.fresh (pointer_at (block_map order m) p.root k j) ≡ true
+  pub all_fresh : (b : ℕ) → is_in p.work.fresh b ≡ true
+      → (k : ℕ) × (j : ℕ) × HasPosition old.holdings.size (prepared_alteration order old p).new k j × (takes_fresh (prepared_alteration order old p) k j ≡ true) × (pointer_at (block_map order m) p.root k j ≡ b)
   pub bytes : (i : ℕ) → HasPosition old.holdings.size (prepared_alteration order old p).new 0 i
       → leaf_bytes (block_map order m) p.root i ≡ leaf_bytes (block_map order old) p.node i
   pub ready : (i : ℕ) → is_written p.change i ≡ true → IsReadyLeaf order m p.root i
@@ -62,9 +65,19 @@ pub record Alters (order : Order) (old : BlockState) (p : Preparation) (m : Bloc
       → is_in (blocks_of p) (pointer_at (block_map order m) p.root k (index_above old.holdings.size k i)) ≡ true
   pub given_up : (v : Visit) → Contains (visits_of (block_map order old) p.node) v → keeps_block (prepared_alteration order old p) v.level v.index ≡ false
       → m.holdings.works v.block ≡ false
+  pub fresh_ready : (k j : ℕ) → HasPosition old.holdings.size (prepared_alteration order old p).new k j → takes_fresh (prepared_alteration order old p) k j ≡ true
+      → IsTrue (m.holdings.ready (pointer_at (block_map order m) p.root k j))
+  pub stays_private : (k j : ℕ) → keeps_block (prepared_alteration order old p) k j ≡ true
+      → m.holdings.private (pointer_at (block_map order m) p.root k j) ≡ old.holdings.private (pointer_at (block_map order old) p.node k j)
 
--- it took as many fresh blocks as it needs, its other blocks are the node's, and its commit makes of the node what the change makes of it, whatever became of other blocks since
+-- a change of a node was prepared: it took as many fresh blocks as it needs, its other blocks are the node's, it gives up those of the node's that it doesn't keep and no others, and its commit makes of the node what the change makes of it, whatever became of other blocks since
 pub record IsPrepared (order : Order) (old now : BlockState) (p : Preparation) : Type 0 where
+  pub change : IsChange old.holdings.size p.change
+  pub sixteen : length p.root.pointers ≡ 16
   pub need : length p.work.fresh ≡ fresh_count (prepared_alteration order old p)
   pub blocks : (b : ℕ) → is_in (blocks_of p) b ≡ true → (is_in p.work.fresh b ≡ true) ⊎ ((v : Visit) × Contains (visits_of (block_map order old) p.node) v × (v.block ≡ b))
+  pub released : (b : ℕ) → is_in p.work.released b ≡ true
+      → (v : Visit) × Contains (visits_of (block_map order old) p.node) v × (v.block ≡ b) × (keeps_block (prepared_alteration order old p) v.level v.index ≡ false)
+  pub lost : (v : Visit) → Contains (visits_of (block_map order old) p.node) v → keeps_block (prepared_alteration order old p) v.level v.index ≡ false
+      → is_in p.work.released v.block ≡ true
   pub commits : (m : BlockState) → AsLeft order p now m → Alters order old p (committed m p)

@@ -14,3 +14,4 @@ pub mod ReadyLeaves
 pub mod Reaching
 pub mod Holes
 pub mod KeptNodes
+pub mod WaitingChanges

@@ -1,5 +1,5 @@
-//! Laws of what leaves a node, a change that waits for its commit, and leaves that are ready.
-ghost use Rattle.std.specs.Prelude.{◌≡◌, ℕ, ◌<◌, true, false, not, List, IsTrue, Contains};
+//! Laws of what leaves a node, changes that wait for their commits, nodes that were altered, and leaves that are ready.
+ghost use Rattle.std.specs.Prelude.{◌≡◌, ℕ, ◌+◌, ◌<◌, ◌++◌, true, false, not, List, [], IsTrue, Contains};
 ghost use Rattle.std.specs.List.{list_any};
 ghost use Rattle.qx_fields.specs.declared.order.Order.{Order};
 ghost use Rattle.qx_geom.specs.declared.root.Root.{Root};
@@ -8,13 +8,15 @@ ghost use Rattle.qx_geom.specs.Positions.{HasPosition};
 ghost use Rattle.qx_nodes.specs.Content.{content_of, leaf_bytes, piece_of};
 ghost use Rattle.qx_nodes.specs.Visits.{LiesBelow, Visit, visits_of};
 ghost use Rattle.qx_blocks.specs.BlockState.{BlockState, IsBlockSize, IsConsistent};
+ghost use Rattle.qx_blocks.specs.Calls.{Keeps};
 ghost use Rattle.qx_ptree.specs.declared.change.Change.{Change};
 ghost use Rattle.qx_ptree.specs.Alterations.{alteration_of, fresh_count, shape_in};
-ghost use Rattle.qx_ptree.specs.Altered.{AsLeft, IsPrepared};
+ghost use Rattle.qx_ptree.specs.Altered.{Alters, AsLeft, IsPrepared, prepared_alteration, takes_fresh};
 ghost use Rattle.qx_ptree.specs.KeptNodes.{KeepsNode};
 ghost use Rattle.qx_ptree.specs.ReadyLeaves.{IsReadyApart, IsWrittenBy, OwnAsLeft, StandIn};
 ghost use Rattle.qx_ptree.specs.Takings.{LeavesOthers, Takes};
-ghost use Rattle.qx_ptree.specs.Trees.{HasLevels, IsRegular, IsToldNode, IsWorking, block_map, empty_node, pointer_at};
+ghost use Rattle.qx_ptree.specs.Trees.{AreApart, HasLevels, IsRegular, IsToldNode, IsWorking, block_map, empty_node, pointer_at};
+ghost use Rattle.qx_ptree.specs.WaitingChanges.{IsClearOf, IsWaiting};
 ghost use Rattle.qx_ptree.specs.WorkState.{CanCommit, Preparation, blocks_of, committed};
 
 /// The node of nothing can be asked and changed, as `IsNode` says it.
@@ -88,4 +90,55 @@ pub fn what_leaves_written_leaves()
         → IsReadyApart order n node (IsWrittenBy c) × StandIn order n node (IsWrittenBy c) blocks }
     ensures others { (order : Order) (changed : List ℕ) (m n : BlockState) (node : Root) (c : Change) (blocks : List ℕ) → LeavesOthers changed m n → ((b : ℕ) → is_in blocks b ≡ true → is_in changed b ≡ false)
         → IsReadyApart order m node (IsWrittenBy c) → StandIn order m node (IsWrittenBy c) blocks → IsReadyApart order n node (IsWrittenBy c) × StandIn order n node (IsWrittenBy c) blocks }
+{}
+
+/// Calls that take blocks, one after another.
+pub fn what_is_taken_in_turn()
+    ensures then { (first second : List ℕ) (m n o : BlockState) → Takes first m n → Takes second n o → Takes (first ++ second) m o }
+    ensures none { (m n : BlockState) → Keeps m n → Takes [] m n }
+{}
+
+/// A change that was prepared waits for its commit while blocks are taken and others change; seen from the blocks before all of them as well.
+pub fn a_prepared_change_waits()
+    ensures begins { (order : Order) (old now : BlockState) (p : Preparation) → IsToldNode order old p.node → IsTrue now.tells → Takes p.work.fresh old now → IsPrepared order old now p
+        → IsWaiting order old now p }
+    ensures later { (order : Order) (old m n : BlockState) (p : Preparation) → IsWaiting order old m p → AsLeft order p m n → IsWaiting order old n p }
+    ensures taken { (order : Order) (fresh : List ℕ) (old m n : BlockState) (p : Preparation) → IsWaiting order old m p → IsConsistent m → IsTrue n.tells → Takes fresh m n
+        → IsWaiting order old n p }
+    ensures others { (order : Order) (changed : List ℕ) (old m n : BlockState) (p : Preparation) → IsWaiting order old m p → IsClearOf order old p changed → LeavesOthers changed m n
+        → IsWaiting order old n p }
+    ensures before { (order : Order) (fresh : List ℕ) (old mid now : BlockState) (p : Preparation) → IsToldNode order old p.node → IsConsistent mid → IsTrue mid.tells → Takes fresh old mid → IsWaiting order mid now p
+        → IsWaiting order old now p }
+    ensures commits { (order : Order) (old now : BlockState) (p : Preparation) → IsWaiting order old now p → Alters order old p (committed now p) }
+{}
+
+/// Changes of nodes that are apart have no block in common, and none of another node's. Only where bytes aren't told can `apart` refuse two of them.
+pub fn changes_of_apart_nodes_are_apart()
+    ensures node { (order : Order) (old now : BlockState) (p : Preparation) (node : Root) (v : Visit) → IsWaiting order old now p → IsWorking order old node → AreApart order old node p.node
+        → Contains (visits_of (block_map order old) node) v → is_in (blocks_of p) v.block ≡ false }
+
+    // The second was prepared after the first.
+    ensures pair { (order : Order) (old now after : BlockState) (p q : Preparation) → IsWaiting order old now p → IsWaiting order old after q → Takes q.work.fresh now after → AreApart order old p.node q.node
+        → IsClearOf order old p (blocks_of q) × IsClearOf order old q (blocks_of p) }
+{}
+
+/// What a change made of its node: each block that is met there is one that it took where the position takes one, and else was met there before.
+pub fn what_an_altered_node_meets()
+    ensures told { (order : Order) (old now m : BlockState) (p : Preparation) → IsWaiting order old now p → IsConsistent m → Alters order old p m → IsToldNode order m p.root }
+    ensures place { (order : Order) (old now m : BlockState) (p : Preparation) (v : Visit) → IsWaiting order old now p → IsConsistent m → Alters order old p m → Contains (visits_of (block_map order m) p.root) v
+        → HasPosition old.holdings.size (prepared_alteration order old p).new v.level v.index }
+    ensures fresh { (order : Order) (old now m : BlockState) (p : Preparation) (v : Visit) → IsWaiting order old now p → IsConsistent m → Alters order old p m → Contains (visits_of (block_map order m) p.root) v
+        → takes_fresh (prepared_alteration order old p) v.level v.index ≡ true → is_in p.work.fresh v.block ≡ true }
+    ensures stays { (order : Order) (old now m : BlockState) (p : Preparation) (v : Visit) → IsWaiting order old now p → IsConsistent m → Alters order old p m → Contains (visits_of (block_map order m) p.root) v
+        → takes_fresh (prepared_alteration order old p) v.level v.index ≡ false → Contains (visits_of (block_map order old) p.node) v }
+{}
+
+/// A node that a change altered stays so while others change, and is apart from what it was apart from.
+pub fn what_leaves_an_altered_node()
+    ensures others { (order : Order) (changed : List ℕ) (old now m n : BlockState) (p : Preparation) → IsWaiting order old now p → IsConsistent m → IsConsistent n → IsClearOf order old p changed → LeavesOthers changed m n
+        → Alters order old p m → Alters order old p n }
+    ensures node { (order : Order) (old now m : BlockState) (p : Preparation) (node : Root) → IsWaiting order old now p → IsConsistent m → Alters order old p m → IsWorking order old node → KeepsNode order old m node → AreApart order old node p.node
+        → AreApart order m node p.root }
+    ensures pair { (order : Order) (old now after m : BlockState) (p q : Preparation) → IsWaiting order old now p → IsWaiting order old after q → IsClearOf order old p (blocks_of q) × IsClearOf order old q (blocks_of p) → AreApart order old p.node q.node
+        → IsConsistent m → Alters order old p m → Alters order old q m → AreApart order m p.root q.root }
 {}

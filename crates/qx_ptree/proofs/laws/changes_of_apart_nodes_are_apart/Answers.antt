@@ -1,0 +1,8 @@
+use Rattle.qx_ptree.proofs.SeveralChanges.{clear_node, clear_pair}
+use Rattle.qx_ptree.proofs.laws.changes_of_apart_nodes_are_apart.Goals as goal
+
+pub returns-clause-node : goal.returns-clause-node
+returns-clause-node c = λ order old now p node v w works apart met. clear_node order old now p node w works apart v met
+
+pub returns-clause-pair : goal.returns-clause-pair
+returns-clause-pair c = clear_pair
