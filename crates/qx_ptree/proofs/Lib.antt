@@ -62,3 +62,4 @@ pub mod NodePositions
 pub mod FreshPositions
 pub mod AlteredNodes
 pub mod SeveralChanges
+pub mod CommittedHoldings

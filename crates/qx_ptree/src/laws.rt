@@ -1,9 +1,9 @@
 //! Laws of what leaves a node, changes that wait for their commits, nodes that were altered, and leaves that are ready.
-ghost use Rattle.std.specs.Prelude.{◌≡◌, ℕ, ◌+◌, ◌<◌, ◌++◌, true, false, not, List, [], IsTrue, Contains};
+ghost use Rattle.std.specs.Prelude.{◌≡◌, ℕ, ◌+◌, ◌<◌, ◌&&◌, ◌++◌, true, false, not, count_by, length, List, [], IsTrue, Contains};
 ghost use Rattle.std.specs.List.{list_any};
 ghost use Rattle.qx_fields.specs.declared.order.Order.{Order};
 ghost use Rattle.qx_geom.specs.declared.root.Root.{Root};
-ghost use Rattle.qx_geom.specs.Lists.{is_in};
+ghost use Rattle.qx_geom.specs.Lists.{Distinct, is_in};
 ghost use Rattle.qx_geom.specs.Positions.{HasPosition};
 ghost use Rattle.qx_nodes.specs.Content.{content_of, leaf_bytes, piece_of};
 ghost use Rattle.qx_nodes.specs.Visits.{LiesBelow, Visit, visits_of};
@@ -141,4 +141,16 @@ pub fn what_leaves_an_altered_node()
         → AreApart order m node p.root }
     ensures pair { (order : Order) (old now after m : BlockState) (p q : Preparation) → IsWaiting order old now p → IsWaiting order old after q → IsClearOf order old p (blocks_of q) × IsClearOf order old q (blocks_of p) → AreApart order old p.node q.node
         → IsConsistent m → Alters order old p m → Alters order old q m → AreApart order m p.root q.root }
+{}
+
+/// What a commit makes of who holds each block: of those that it gives up, the private ones are free, and the others stay held as they are.
+pub fn what_a_commit_makes_of_blocks()
+    ensures works { (m : BlockState) (p : Preparation) (b : ℕ) → (committed m p).holdings.works b ≡ (m.holdings.works b && not (is_in p.work.released b)) }
+    ensures held { (m : BlockState) (p : Preparation) (b : ℕ) → IsConsistent m → (committed m p).holdings.held b ≡ (m.holdings.held b && not (m.holdings.private b && is_in p.work.released b)) }
+    ensures private { (m : BlockState) (p : Preparation) (b : ℕ) → IsConsistent m → (committed m p).holdings.private b ≡ (m.holdings.private b && not (is_in p.work.released b)) }
+    ensures free { (m : BlockState) (p : Preparation) → IsConsistent m → Distinct p.work.released
+        → (committed m p).holdings.free ≡ m.holdings.free + count_by (λ b. m.holdings.private b) p.work.released }
+
+    // No block that another tree holds is written.
+    ensures shared { (m : BlockState) (p : Preparation) (b : ℕ) → IsConsistent m → CanCommit m p → m.holdings.private b ≡ false → (committed m p).bytes b ≡ m.bytes b }
 {}
