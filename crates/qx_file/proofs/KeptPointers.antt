@@ -4,13 +4,14 @@ use Rattle.std.specs.Prelude.{◌==◌, if◌then◌else◌, IsTrue}
 use Rattle.qx_fields.specs.declared.order.Order.{Order}
 use Rattle.qx_fields.specs.Number.{field}
 use Rattle.qx_geom.specs.declared.root.Root.{Root}
+use Rattle.qx_geom.specs.Lists.{is_in}
 use Rattle.qx_geom.specs.Pointer.{absent, per_block}
 use Rattle.qx_geom.specs.Positions.{index_above}
 use Rattle.qx_nodes.specs.BlockMap.{BlockMap, with_bytes, word}
 use Rattle.qx_nodes.proofs.LeafPaths.{by_one}
 use Rattle.qx_blocks.specs.BlockState.{BlockState}
 use Rattle.qx_ptree.specs.Altered.{IsReadyLeaf}
-use Rattle.qx_ptree.specs.ReadyLeaves.{IsAbove, IsReadyApart}
+use Rattle.qx_ptree.specs.ReadyLeaves.{IsAbove, IsReadyApart, StandIn}
 use Rattle.qx_ptree.specs.Trees.{block_map, pointer_at, pointer_from}
 use Rattle.qx_ptree.proofs.ReadyPaths.{pointer_at-depth, index_over}
 use Rattle.qx_file.specs.Puts.{leaf_block}
@@ -84,6 +85,12 @@ ready_kept order m n node leaves r same only = subst (λ x. IsReadyApart order x
   ready = λ k j low above. subst (λ p. IsTrue (m.holdings.ready p)) (sym (at_kept order m node leaves n.bytes r only k j low above)) (r.ready k j low above);
   apart = λ k j h i low lower above over e.
       r.apart k j h i low lower above over (sym (at_kept order m node leaves n.bytes r only k j low above) ∙ e ∙ at_kept order m node leaves n.bytes r only h i lower over);
+})
+
+-- in the same blocks
+pub stand_kept : (order : Order) (m n : BlockState) (node : Root) (leaves : ℕ → Type 0) (blocks : List ℕ) → IsReadyApart order m node leaves → n.holdings ≡ m.holdings → IsOnly order m node leaves n.bytes → StandIn order m node leaves blocks → StandIn order n node leaves blocks
+stand_kept order m n node leaves blocks r same only stand = subst (λ x. StandIn order x node leaves blocks) (is_with_all m n same) (record {
+  own = λ k j low above. ap (is_in blocks) (at_kept order m node leaves n.bytes r only k j low above) ∙ stand.own k j low above;
 })
 
 -- fewer leaves are ready apart as well

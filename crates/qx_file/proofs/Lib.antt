@@ -4,5 +4,4 @@ pub mod PartBytes
 pub mod ReadBytes
 pub mod PlannedChanges
 pub mod PutContent
-pub mod SameBlocks
 pub mod CommittedFiles

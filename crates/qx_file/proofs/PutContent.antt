@@ -187,6 +187,15 @@ module _ (order : Order) (m n : BlockState) (node : Root) (at : ℕ) (bytes : Li
   pub byte_stays_after : (k : ℕ) → k < leaves_end m.holdings.size node.size → (k < at) ⊎ (at + length bytes ≤ k) → byte_of (block_map order n) node k ≡ byte_of before node k
   byte_stays_after k low out = subst (λ x. byte_of (block_map order x) node k ≡ byte_of before node k) (is_with_all m n puts.holdings) (byte_stays k low out)
 
+  -- the bytes of a leaf that has one of them
+  pub leaf_put_after : (i : ℕ) → Has i → leaf_bytes (block_map order n) node i ≡ with_part m.holdings.size i at bytes (leaf_bytes before node i)
+  leaf_put_after i has = subst (λ x. leaf_bytes (block_map order x) node i ≡ with_part m.holdings.size i at bytes (leaf_bytes before node i)) (is_with_all m n puts.holdings)
+      (leaf_put i has ∙ ap (with_part m.holdings.size i at bytes) (sym (leaf_was i has)))
+
+  -- and of one that has none
+  pub leaf_stays_after : (i : ℕ) → i < ceil_div node.size m.holdings.size → (Has i → ⊥) → leaf_bytes (block_map order n) node i ≡ leaf_bytes before node i
+  leaf_stays_after i low out = subst (λ x. leaf_bytes (block_map order x) node i ≡ leaf_bytes before node i) (is_with_all m n puts.holdings) (leaf_stays i low out)
+
   -- what the node meets
   pub visits_after : visits_of (block_map order n) node ≡ visits_of before node
   visits_after = subst (λ x. visits_of (block_map order x) node ≡ visits_of before node) (is_with_all m n puts.holdings) (sym (visits_above before n.bytes node agrees))

@@ -1,18 +1,19 @@
 //! Laws of planned changes, and of what is put.
-ghost use Rattle.std.specs.Prelude.{◌≡◌, ℕ, ◌+◌, ◌-◌, ◌*◌, ◌<◌, ◌≤◌, ◌⊎◌, ◌↔◌, Bool, true, false, List, length, slice_index, IsTrue};
+ghost use Rattle.std.specs.Prelude.{◌≡◌, ℕ, ◌+◌, ◌-◌, ◌*◌, ◌/◌, ◌<◌, ◌≤◌, ◌⊎◌, ◌↔◌, Bool, true, false, List, length, slice_index, IsTrue};
 ghost use Rattle.qx_fields.specs.declared.order.Order.{Order};
 ghost use Rattle.qx_geom.specs.declared.root.Root.{Root};
 ghost use Rattle.qx_geom.specs.Layout.{is_block_size};
-ghost use Rattle.qx_geom.specs.Pointer.{reach};
-ghost use Rattle.qx_nodes.specs.Content.{byte_of};
+ghost use Rattle.qx_geom.specs.Pointer.{ceil_div, reach};
+ghost use Rattle.qx_nodes.specs.Content.{byte_of, leaf_bytes};
 ghost use Rattle.qx_nodes.specs.Visits.{visits_of};
 ghost use Rattle.qx_blocks.specs.BlockState.{BlockState, IsBlockSize, IsConsistent};
 ghost use Rattle.qx_ptree.specs.declared.change.Change.{Change};
 ghost use Rattle.qx_ptree.specs.Fates.{IsChange, is_written};
-ghost use Rattle.qx_ptree.specs.ReadyLeaves.{IsReadyApart, IsWrittenBy};
-ghost use Rattle.qx_ptree.specs.Trees.{HasLevels, IsRegular, IsWorking, block_map};
+ghost use Rattle.qx_ptree.specs.ReadyLeaves.{IsReadyApart, IsWrittenBy, StandIn};
+ghost use Rattle.qx_ptree.specs.Takings.{LeavesOthers};
+ghost use Rattle.qx_ptree.specs.Trees.{HasLevels, IsRegular, IsToldNode, IsWorking, block_map};
 ghost use Rattle.qx_file.specs.FilePlans.{cuts_leaf, greatest_end, past_end, size_change, write_change};
-ghost use Rattle.qx_file.specs.Puts.{CanPut, HasByte, MeetsOnce, Puts, leaves_end};
+ghost use Rattle.qx_file.specs.Puts.{CanPut, HasByte, MeetsOnce, Puts, leaves_end, with_part};
 
 /// A planned write is a change that can be prepared. It writes the leaves that have one of the bytes, and these lie below its size.
 pub fn a_planned_write_writes_its_leaves()
@@ -55,6 +56,12 @@ pub fn what_is_put_is_the_nodes()
         → at ≤ k → k < at + length bytes → byte_of (block_map order n) node k ≡ slice_index bytes (k - at) }
     ensures stays { (order : Order) (m n : BlockState) (node : Root) (at k : ℕ) (bytes : List ℕ) → IsConsistent m → CanPut order m node at (length bytes) → MeetsOnce order m node → Puts order node at bytes m n
         → k < leaves_end m.holdings.size node.size → (k < at) ⊎ (at + length bytes ≤ k) → byte_of (block_map order n) node k ≡ byte_of (block_map order m) node k }
+
+    // Leaf by leaf.
+    ensures leaf { (order : Order) (m n : BlockState) (node : Root) (at i : ℕ) (bytes : List ℕ) → IsToldNode order m node → CanPut order m node at (length bytes) → Puts order node at bytes m n → HasByte m.holdings.size at (length bytes) i
+        → leaf_bytes (block_map order n) node i ≡ with_part m.holdings.size i at bytes (leaf_bytes (block_map order m) node i) }
+    ensures other_leaf { (order : Order) (m n : BlockState) (node : Root) (at i : ℕ) (bytes : List ℕ) → IsToldNode order m node → CanPut order m node at (length bytes) → Puts order node at bytes m n → ¬ (HasByte m.holdings.size at (length bytes) i)
+        → i < ceil_div node.size m.holdings.size → leaf_bytes (block_map order n) node i ≡ leaf_bytes (block_map order m) node i }
 {}
 
 /// What a node meets stays, and what is asked of a node holds as it did.
@@ -69,10 +76,18 @@ pub fn what_is_put_leaves_the_pointers()
     // Also where bytes aren't told, the leaves that a change wrote stay ready apart.
     ensures ready { (order : Order) (m n : BlockState) (node : Root) (c : Change) (at : ℕ) (bytes : List ℕ) → ((i : ℕ) → HasByte m.holdings.size at (length bytes) i → is_written c i ≡ true) → Puts order node at bytes m n
         → IsReadyApart order m node (IsWrittenBy c) → IsReadyApart order n node (IsWrittenBy c) }
+    ensures stand { (order : Order) (m n : BlockState) (node : Root) (c : Change) (at : ℕ) (bytes blocks : List ℕ) → ((i : ℕ) → HasByte m.holdings.size at (length bytes) i → is_written c i ≡ true) → Puts order node at bytes m n
+        → IsReadyApart order m node (IsWrittenBy c) → StandIn order m node (IsWrittenBy c) blocks → StandIn order n node (IsWrittenBy c) blocks }
 {}
 
 /// Once a change is committed, bytes in leaves that it wrote can be put, in as many pieces as one likes.
 pub fn bytes_in_written_leaves_can_be_put()
     ensures { (order : Order) (m : BlockState) (node : Root) (c : Change) (at count : ℕ) → HasLevels m.holdings.size node → at + count ≤ leaves_end m.holdings.size node.size
         → ((i : ℕ) → HasByte m.holdings.size at count i → is_written c i ≡ true) → IsReadyApart order m node (IsWrittenBy c) → CanPut order m node at count }
+{}
+
+/// Bytes that are put into leaves that a change wrote change none but that change's blocks.
+pub fn what_is_put_leaves_others()
+    ensures { (order : Order) (m n : BlockState) (node : Root) (c : Change) (at : ℕ) (bytes blocks : List ℕ) → ((i : ℕ) → HasByte m.holdings.size at (length bytes) i → is_written c i ≡ true)
+        → StandIn order m node (IsWrittenBy c) blocks → Puts order node at bytes m n → LeavesOthers blocks m n }
 {}

@@ -14,6 +14,6 @@ pub use bytes::{put, put_fill, read};
 pub use laws::{
     a_file_ends_in_its_last_leaf, a_planned_size_writes_the_cut_leaf,
     a_planned_write_writes_its_leaves, bytes_in_written_leaves_can_be_put,
-    what_is_put_is_the_nodes, what_is_put_leaves_the_pointers,
+    what_is_put_is_the_nodes, what_is_put_leaves_others, what_is_put_leaves_the_pointers,
 };
 pub use plans::{TooBig, plan_size, plan_write};

@@ -7,14 +7,14 @@ use Rattle.qx_ptree.specs.Altered.{Alters, IsPrepared}
 use Rattle.qx_ptree.specs.Takings.{LeavesOthers, Takes}
 use Rattle.qx_ptree.specs.Trees.{HasLevels, IsRegular, IsWorking}
 use Rattle.qx_ptree.specs.WorkState.{Preparation, blocks_of, committed}
-use Rattle.qx_file.proofs.SameBlocks.{as_left}
+use Rattle.qx_ptree.proofs.WaitingChanges.{left_same}
 use Rattle.tree_bench.specs.Nodes.{IsNode}
 
 -- from the blocks `old` the change was prepared, and from the blocks `now` it was committed
 pub node-made : (order : Order) (old now new : BlockState) (p : Preparation) → HasLevels old.holdings.size p.root → Takes p.work.fresh old now → (IsTrue now.tells → IsPrepared order old now p)
     → new ≡ committed now p → LeavesOthers (blocks_of p) now new → IsNode order new p.root
 node-made order old now new p levels takes prepared is others =
-    let alters : IsTrue new.tells → Alters order old p (committed now p) = λ told. (prepared (sym others.tells ∙ told)).commits now (as_left order p now) in
+    let alters : IsTrue new.tells → Alters order old p (committed now p) = λ told. (prepared (sym others.tells ∙ told)).commits now (left_same order p now) in
     record {
       levels = subst (λ s. HasLevels s p.root) (sym (others.size ∙ takes.size)) levels;
       works = λ told. subst (λ x. IsWorking order x p.root) (sym is) (alters told).works;

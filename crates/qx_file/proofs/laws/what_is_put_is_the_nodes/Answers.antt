@@ -1,4 +1,4 @@
-use Rattle.qx_file.proofs.PutContent.{byte_put_after, byte_stays_after}
+use Rattle.qx_file.proofs.PutContent.{byte_put_after, byte_stays_after, leaf_put_after, leaf_stays_after}
 use Rattle.qx_file.proofs.laws.what_is_put_is_the_nodes.Goals as goal
 
 pub returns-clause-put : goal.returns-clause-put
@@ -6,3 +6,9 @@ returns-clause-put c = λ order m n node at k bytes s can once puts from to. byt
 
 pub returns-clause-stays : goal.returns-clause-stays
 returns-clause-stays c = λ order m n node at k bytes s can once puts low out. byte_stays_after order m n node at bytes s can once puts k low out
+
+pub returns-clause-leaf : goal.returns-clause-leaf
+returns-clause-leaf c = λ order m n node at i bytes is can puts has. leaf_put_after order m n node at bytes is.consistent can is.regular.apart puts i has
+
+pub returns-clause-other_leaf : goal.returns-clause-other_leaf
+returns-clause-other_leaf c = λ order m n node at i bytes is can puts out low. leaf_stays_after order m n node at bytes is.consistent can is.regular.apart puts i low out

@@ -1,5 +1,5 @@
 use Rattle.qx_ptree.specs.ReadyLeaves.{IsWrittenBy}
-use Rattle.qx_file.proofs.KeptPointers.{ready_kept}
+use Rattle.qx_file.proofs.KeptPointers.{ready_kept, stand_kept}
 use Rattle.qx_file.proofs.PutContent.{regular_after, visits_after, works_after}
 use Rattle.qx_file.proofs.laws.what_is_put_leaves_the_pointers.Goals as goal
 
@@ -15,3 +15,7 @@ returns-clause-regular c = λ order m n node at bytes s can puts works regular. 
 pub returns-clause-ready : goal.returns-clause-ready
 returns-clause-ready c = λ order m n node change at bytes within puts ready.
     ready_kept order m n node (IsWrittenBy change) ready puts.holdings (λ b out. puts.others b (λ i has. out i (within i has)))
+
+pub returns-clause-stand : goal.returns-clause-stand
+returns-clause-stand c = λ order m n node change at bytes blocks within puts ready stand.
+    stand_kept order m n node (IsWrittenBy change) blocks ready puts.holdings (λ b out. puts.others b (λ i has. out i (within i has))) stand

@@ -4,7 +4,7 @@ use Rattle.qx_geom.specs.declared.root.Root.{Root}
 use Rattle.qx_blocks.specs.BlockState.{BlockState}
 use Rattle.qx_ptree.specs.ReadyLeaves.{IsReadyApart, IsWrittenBy}
 use Rattle.qx_ptree.specs.WorkState.{committed}
-use Rattle.qx_file.proofs.SameBlocks.{own_as_left}
+use Rattle.qx_ptree.proofs.WaitingChanges.{own_same}
 use Rattle.tree_bench.specs.Nodes.{IsNode}
 use Rattle.tree_bench.proofs.ChangedNodes.{node-made}
 use Rattle.tree_bench.proofs.Reasons.{stopped}
@@ -20,7 +20,7 @@ pub returns-clause-written : goal.returns-clause-written
 returns-clause-written g c =
     let now : BlockState = g.B.Blocks.state c.prepare.new.blocks in
     let p = c.in_ok-p.p in
-    let ready : IsReadyApart c.args.order (committed now p) p.root (IsWrittenBy c.args.change.now) = c.in_ok-p.ensures.written now (own_as_left p now) in
+    let ready : IsReadyApart c.args.order (committed now p) p.root (IsWrittenBy c.args.change.now) = c.in_ok-p.ensures.written now (own_same p now) in
     subst (λ (n : Root). IsReadyApart c.args.order (g.B.Blocks.state c.commit.new.blocks) n (IsWrittenBy c.args.change.now)) (sym c.commit.ensures.node)
     (subst (λ (x : BlockState). IsReadyApart c.args.order x p.root (IsWrittenBy c.args.change.now)) (sym c.commit.ensures.blocks) ready)
 
