@@ -5,3 +5,4 @@ pub mod ReadBytes
 pub mod PlannedChanges
 pub mod PutContent
 pub mod CommittedFiles
+pub mod ChangedContents

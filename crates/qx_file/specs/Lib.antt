@@ -1,2 +1,3 @@
 pub mod FilePlans
 pub mod Puts
+pub mod Contents

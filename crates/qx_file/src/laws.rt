@@ -1,17 +1,24 @@
 //! Laws of planned changes, and of what is put.
-ghost use Rattle.std.specs.Prelude.{◌≡◌, ℕ, ◌+◌, ◌-◌, ◌*◌, ◌/◌, ◌<◌, ◌≤◌, ◌⊎◌, ◌↔◌, Bool, true, false, List, length, slice_index, IsTrue};
+ghost use Rattle.std.specs.Prelude.{◌≡◌, ℕ, ◌+◌, ◌-◌, ◌*◌, ◌/◌, ◌%◌, ◌<◌, ◌≤◌, ◌⊎◌, ◌↔◌, Bool, true, false, List, None, Some, length, replicate, slice_index, if◌then◌else◌, IsTrue};
+ghost use Rattle.qx_bytes.specs.Ranges.{put_at};
+ghost use Rattle.qx_outside.specs.Trail.{resized};
 ghost use Rattle.qx_fields.specs.declared.order.Order.{Order};
 ghost use Rattle.qx_geom.specs.declared.root.Root.{Root};
 ghost use Rattle.qx_geom.specs.Layout.{is_block_size};
+ghost use Rattle.qx_geom.specs.Lists.{is_in};
 ghost use Rattle.qx_geom.specs.Pointer.{ceil_div, reach};
-ghost use Rattle.qx_nodes.specs.Content.{byte_of, leaf_bytes};
-ghost use Rattle.qx_nodes.specs.Visits.{visits_of};
+ghost use Rattle.qx_nodes.specs.Content.{byte_of, content_of, leaf_bytes};
+ghost use Rattle.qx_nodes.specs.Visits.{present_of, visits_of};
 ghost use Rattle.qx_blocks.specs.BlockState.{BlockState, IsBlockSize, IsConsistent};
 ghost use Rattle.qx_ptree.specs.declared.change.Change.{Change};
+ghost use Rattle.qx_ptree.specs.Altered.{Alters, prepared_alteration};
 ghost use Rattle.qx_ptree.specs.Fates.{IsChange, is_written};
 ghost use Rattle.qx_ptree.specs.ReadyLeaves.{IsReadyApart, IsWrittenBy, StandIn};
 ghost use Rattle.qx_ptree.specs.Takings.{LeavesOthers};
 ghost use Rattle.qx_ptree.specs.Trees.{HasLevels, IsRegular, IsToldNode, IsWorking, block_map};
+ghost use Rattle.qx_ptree.specs.WaitingChanges.{IsWaiting};
+ghost use Rattle.qx_ptree.specs.WorkState.{Preparation};
+ghost use Rattle.qx_file.specs.Contents.{HasNoTail};
 ghost use Rattle.qx_file.specs.FilePlans.{cuts_leaf, greatest_end, past_end, size_change, write_change};
 ghost use Rattle.qx_file.specs.Puts.{CanPut, HasByte, MeetsOnce, Puts, leaves_end, with_part};
 
@@ -62,6 +69,12 @@ pub fn what_is_put_is_the_nodes()
         → leaf_bytes (block_map order n) node i ≡ with_part m.holdings.size i at bytes (leaf_bytes (block_map order m) node i) }
     ensures other_leaf { (order : Order) (m n : BlockState) (node : Root) (at i : ℕ) (bytes : List ℕ) → IsToldNode order m node → CanPut order m node at (length bytes) → Puts order node at bytes m n → ¬ (HasByte m.holdings.size at (length bytes) i)
         → i < ceil_div node.size m.holdings.size → leaf_bytes (block_map order n) node i ≡ leaf_bytes (block_map order m) node i }
+
+    // And the whole content.
+    ensures content { (order : Order) (m n : BlockState) (node : Root) (at : ℕ) (bytes : List ℕ) → IsToldNode order m node → CanPut order m node at (length bytes) → Puts order node at bytes m n → at + length bytes ≤ node.size
+        → content_of (block_map order n) node ≡ put_at (content_of (block_map order m) node) at bytes }
+    ensures past { (order : Order) (m n : BlockState) (node : Root) (at : ℕ) (bytes : List ℕ) → IsToldNode order m node → CanPut order m node at (length bytes) → Puts order node at bytes m n → node.size ≤ at
+        → content_of (block_map order n) node ≡ content_of (block_map order m) node }
 {}
 
 /// What a node meets stays, and what is asked of a node holds as it did.
@@ -90,4 +103,29 @@ pub fn bytes_in_written_leaves_can_be_put()
 pub fn what_is_put_leaves_others()
     ensures { (order : Order) (m n : BlockState) (node : Root) (c : Change) (at : ℕ) (bytes blocks : List ℕ) → ((i : ℕ) → HasByte m.holdings.size at (length bytes) i → is_written c i ≡ true)
         → StandIn order m node (IsWrittenBy c) blocks → Puts order node at bytes m n → LeavesOthers blocks m n }
+{}
+
+/// Once a change is committed, a present leaf of the file has the bytes that it had, and another one is 0. So where no leaf is taken out, the file holds what it held, cut or filled up with 0.
+pub fn the_content_after_a_change()
+    ensures byte { (order : Order) (old now m : BlockState) (p : Preparation) (k : ℕ) → IsWaiting order old now p → IsConsistent m → Alters order old p m → k < leaves_end old.holdings.size p.root.size
+        → byte_of (block_map order m) p.root k ≡ (if is_in (prepared_alteration order old p).new.present (k / old.holdings.size) then byte_of (block_map order old) p.node k else 0) }
+    ensures same { (order : Order) (old now m : BlockState) (p : Preparation) (k : ℕ) → IsWaiting order old now p → IsConsistent m → Alters order old p m → k < leaves_end old.holdings.size p.root.size → ¬ (p.change.gone ≡ Some (k / old.holdings.size))
+        → byte_of (block_map order m) p.root k ≡ byte_of (block_map order old) p.node k }
+    ensures content { (order : Order) (old now m : BlockState) (p : Preparation) → IsWaiting order old now p → IsConsistent m → Alters order old p m → p.change.gone ≡ None → HasNoTail order old p.node
+        → content_of (block_map order m) p.root ≡ resized (content_of (block_map order old) p.node) p.root.size }
+{}
+
+/// A file has no byte but 0 past its size where it ends with a leaf, or the leaf with its end isn't present; and after changes and puts that leave none there.
+pub fn a_file_without_a_tail()
+    ensures past { (order : Order) (m : BlockState) (node : Root) (k : ℕ) → IsToldNode order m node → HasNoTail order m node → node.size ≤ k → byte_of (block_map order m) node k ≡ 0 }
+    ensures whole { (order : Order) (m : BlockState) (node : Root) → 0 < m.holdings.size → node.size % m.holdings.size ≡ 0 → HasNoTail order m node }
+    ensures hole { (order : Order) (m : BlockState) (node : Root) → IsToldNode order m node → is_in (present_of (block_map order m) node) (node.size / m.holdings.size) ≡ false → HasNoTail order m node }
+    ensures grown { (order : Order) (old now m : BlockState) (p : Preparation) → IsWaiting order old now p → IsConsistent m → Alters order old p m → p.change.gone ≡ None → HasNoTail order old p.node → p.node.size ≤ p.root.size
+        → HasNoTail order m p.root }
+    ensures put { (order : Order) (m n : BlockState) (node : Root) (at : ℕ) (bytes : List ℕ) → IsToldNode order m node → CanPut order m node at (length bytes) → Puts order node at bytes m n → at + length bytes ≤ node.size → HasNoTail order m node
+        → HasNoTail order n node }
+
+    // As in the leaf in which a file is cut.
+    ensures zeros { (order : Order) (m n : BlockState) (node : Root) → IsToldNode order m node → CanPut order m node node.size (past_end m.holdings.size node.size)
+        → Puts order node node.size (replicate (past_end m.holdings.size node.size) 0) m n → HasNoTail order n node }
 {}

@@ -12,8 +12,9 @@ mod plans;
 
 pub use bytes::{put, put_fill, read};
 pub use laws::{
-    a_file_ends_in_its_last_leaf, a_planned_size_writes_the_cut_leaf,
+    a_file_ends_in_its_last_leaf, a_file_without_a_tail, a_planned_size_writes_the_cut_leaf,
     a_planned_write_writes_its_leaves, bytes_in_written_leaves_can_be_put,
-    what_is_put_is_the_nodes, what_is_put_leaves_others, what_is_put_leaves_the_pointers,
+    the_content_after_a_change, what_is_put_is_the_nodes, what_is_put_leaves_others,
+    what_is_put_leaves_the_pointers,
 };
 pub use plans::{TooBig, plan_size, plan_write};

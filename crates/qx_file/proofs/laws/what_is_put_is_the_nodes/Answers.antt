@@ -1,3 +1,4 @@
+use Rattle.qx_file.proofs.ChangedContents.{content_past, content_put}
 use Rattle.qx_file.proofs.PutContent.{byte_put_after, byte_stays_after, leaf_put_after, leaf_stays_after}
 use Rattle.qx_file.proofs.laws.what_is_put_is_the_nodes.Goals as goal
 
@@ -12,3 +13,9 @@ returns-clause-leaf c = λ order m n node at i bytes is can puts has. leaf_put_a
 
 pub returns-clause-other_leaf : goal.returns-clause-other_leaf
 returns-clause-other_leaf c = λ order m n node at i bytes is can puts out low. leaf_stays_after order m n node at bytes is.consistent can is.regular.apart puts i low out
+
+pub returns-clause-content : goal.returns-clause-content
+returns-clause-content c = λ order m n node at bytes is can puts room. content_put order m n node at bytes is can puts room
+
+pub returns-clause-past : goal.returns-clause-past
+returns-clause-past c = λ order m n node at bytes is can puts past. content_past order m n node at bytes is can puts past
