@@ -56,14 +56,14 @@ module _ (order : Order) (old m : BlockState) (p : Preparation) (told : IsToldNo
   pub after_met : {P : Type 0} (v : Visit) → Contains (visits_of (block_map order m) p.root) v → (is_in p.work.fresh v.block ≡ true → P) → (Contains (visits_of (block_map order old) p.node) v → P) → P
   after_met {P = P} v c fresh stays = elim (takes_fresh made v.level v.index) as (λ t. takes_fresh made v.level v.index ≡ t → P) [ true ↦ λ e. fresh (after_fresh v c e) | false ↦ λ e. stays (after_stays v c e) ] refl
 
-  module _ (changed : List ℕ) (n : BlockState) (after : IsConsistent n) (l : LeavesOthers changed m n) (clear : IsClearOf order old p changed) where
-    -- what is met there isn't among blocks that neither the change nor the old node has
-    pub after_clear : (v : Visit) → Contains (visits_of (block_map order m) p.root) v → is_in changed v.block ≡ false
-    after_clear v c = after_met v c (λ fresh. clear.own v.block (in_left p.work.fresh (p.work.kept ++ p.work.released) v.block fresh)) (clear.met v)
+  -- so it is none of the blocks that neither the change nor the old node has
+  pub after_clear : (changed : List ℕ) → IsClearOf order old p changed → (v : Visit) → Contains (visits_of (block_map order m) p.root) v → is_in changed v.block ≡ false
+  after_clear changed clear v c = after_met v c (λ fresh. clear.own v.block (in_left p.work.fresh (p.work.kept ++ p.work.released) v.block fresh)) (clear.met v)
 
-    -- so the node stays while they change
+  module _ (changed : List ℕ) (n : BlockState) (after : IsConsistent n) (l : LeavesOthers changed m n) (clear : IsClearOf order old p changed) where
+    -- the node stays while they change
     stays : KeepsNode order m n p.root
-    stays = kept_others order changed m n p.root l after_clear
+    stays = kept_others order changed m n p.root l (after_clear changed clear)
 
     -- with its pointers
     pointer : (k j : ℕ) → pointer_at (block_map order n) p.root k j ≡ pointer_at (block_map order m) p.root k j
@@ -71,7 +71,7 @@ module _ (order : Order) (old m : BlockState) (p : Preparation) (told : IsToldNo
 
     -- none of which changes
     clear_at : (k j : ℕ) → HasPosition old.holdings.size made.new k j → is_in changed (pointer_at (block_map order m) p.root k j) ≡ false
-    clear_at k j h = after_clear (record { level = k; index = j; block = pointer_at (block_map order m) p.root k j }) (position_met order m p.root told_after k j (place_same k j ∙ h))
+    clear_at k j h = after_clear changed clear (record { level = k; index = j; block = pointer_at (block_map order m) p.root k j }) (position_met order m p.root told_after k j (place_same k j ∙ h))
 
     -- a block that was ready is
     ready_at : (k j : ℕ) → HasPosition old.holdings.size made.new k j → IsTrue (m.holdings.ready (pointer_at (block_map order m) p.root k j)) → IsTrue (n.holdings.ready (pointer_at (block_map order n) p.root k j))

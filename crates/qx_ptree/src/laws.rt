@@ -137,6 +137,8 @@ pub fn what_an_altered_node_meets()
 pub fn what_leaves_an_altered_node()
     ensures others { (order : Order) (changed : List ℕ) (old now m n : BlockState) (p : Preparation) → IsWaiting order old now p → IsConsistent m → IsConsistent n → IsClearOf order old p changed → LeavesOthers changed m n
         → Alters order old p m → Alters order old p n }
+    ensures clear { (order : Order) (changed : List ℕ) (old now m : BlockState) (p : Preparation) (v : Visit) → IsWaiting order old now p → IsConsistent m → IsClearOf order old p changed → Alters order old p m
+        → Contains (visits_of (block_map order m) p.root) v → is_in changed v.block ≡ false }
     ensures node { (order : Order) (old now m : BlockState) (p : Preparation) (node : Root) → IsWaiting order old now p → IsConsistent m → Alters order old p m → IsWorking order old node → KeepsNode order old m node → AreApart order old node p.node
         → AreApart order m node p.root }
     ensures pair { (order : Order) (old now after m : BlockState) (p q : Preparation) → IsWaiting order old now p → IsWaiting order old after q → IsClearOf order old p (blocks_of q) × IsClearOf order old q (blocks_of p) → AreApart order old p.node q.node
