@@ -6,7 +6,7 @@ use Rattle.std.proofs.Math.Bool.{or-false}
 use Rattle.std.proofs.lemmas.Bool.{or_left as either_left}
 use Rattle.qx_fields.specs.declared.order.Order.{Order}
 use Rattle.qx_geom.specs.Lists.{is_in}
-use Rattle.qx_geom.proofs.Members.{in_cases}
+use Rattle.qx_geom.proofs.Members.{in_cases, in_head, in_tail}
 use Rattle.qx_geom.proofs.Truths.{not_so, not_true, or_left, or_right, true_or_false}
 use Rattle.qx_nodes.specs.Visits.{Visit, visits_of}
 use Rattle.qx_blocks.specs.BlockState.{BlockState, IsConsistent}
@@ -37,7 +37,16 @@ none_passes f (x ∷ xs) none b h = elim (in_cases x b xs h) [
 pub apart_each : (p q : Preparation) → not (list_any (λ b. is_in (blocks_of q) b) (blocks_of p)) ≡ true → IsApart (blocks_of p) (blocks_of q)
 apart_each p q h = none_passes (λ b. is_in (blocks_of q) b) (blocks_of p) (not_true (list_any (λ b. is_in (blocks_of q) b) (blocks_of p)) h)
 
--- and the other way
+-- a test that fails for each fails for all
+all_fail : (f : ℕ → Bool) (xs : List ℕ) → ((b : ℕ) → is_in xs b ≡ true → f b ≡ false) → list_any f xs ≡ false
+all_fail f [] out = refl
+all_fail f (x ∷ xs) out = λ i. out x (in_head x xs) i || all_fail f xs (λ b h. out b (in_tail x b xs h)) i
+
+-- so two changes with no block in common pass the test
+pub apart_test : (p q : Preparation) → IsApart (blocks_of p) (blocks_of q) → not (list_any (λ b. is_in (blocks_of q) b) (blocks_of p)) ≡ true
+apart_test p q h = ap not (all_fail (λ b. is_in (blocks_of q) b) (blocks_of p) h)
+
+-- no block of the second is one of the first
 pub apart_back : (blocks others : List ℕ) → IsApart blocks others → IsApart others blocks
 apart_back blocks others h b in' = not_so (is_in blocks b) (λ e. true_or_false (is_in others b) in' (h b e))
 

@@ -120,6 +120,9 @@ pub fn changes_of_apart_nodes_are_apart()
     // The second was prepared after the first.
     ensures pair { (order : Order) (old now after : BlockState) (p q : Preparation) → IsWaiting order old now p → IsWaiting order old after q → Takes q.work.fresh now after → AreApart order old p.node q.node
         → IsClearOf order old p (blocks_of q) × IsClearOf order old q (blocks_of p) }
+
+    // So `apart` passes them.
+    ensures passes { (order : Order) (old : BlockState) (p q : Preparation) → IsClearOf order old p (blocks_of q) → not (list_any (λ b. is_in (blocks_of q) b) (blocks_of p)) ≡ true }
 {}
 
 /// What a change made of its node: each block that is met there is one that it took where the position takes one, and else was met there before.
