@@ -11,7 +11,7 @@ use Rattle.qx_blocks.specs.BlockState.{BlockState, IsBlockSize, IsConsistent}
 use Rattle.qx_ptree.specs.declared.change.Change.{Change}
 use Rattle.qx_ptree.specs.Fates.{IsChange}
 use Rattle.qx_ptree.specs.ReadyLeaves.{IsReadyApart, IsWrittenBy}
-use Rattle.qx_ptree.specs.Trees.{HasLevels, IsRegular, IsWorking}
+use Rattle.qx_ptree.specs.Trees.{HasLevels, IsNode}
 use Rattle.qx_file.specs.FilePlans.{cuts_leaf, greatest_end, size_change, write_change}
 use Rattle.qx_file.specs.Puts.{CanPut, Puts}
 use Rattle.qx_file.proofs.PlannedChanges.{cut_can, is_size, write_can, write_is_change}
@@ -53,19 +53,15 @@ size_can order m node root size block last c same k is some levels root_size rea
     subst (λ b. CanPut order m root size (b - size % b)) (sym same)
     (cut_can order m node root size last k.size cuts levels (root_size ∙ ap (λ (x : Change). x.size) e) (subst (λ (x : Change). IsReadyApart order m root (IsWrittenBy x)) e ready))
 
--- after bytes were put, the pointers lead to the working tree's blocks
-pub put_works : (order : Order) (m n : BlockState) (root : Root) (at : ℕ) (bytes : List ℕ) → IsConsistent m → CanPut order m root at (length bytes) → Puts order root at bytes m n
-    → (IsTrue m.tells → IsWorking order m root) → (IsTrue m.tells → IsRegular order m root) → IsTrue n.tells → IsWorking order n root
-put_works order m n root at bytes k can puts works regular told =
-    let before : IsTrue m.tells = sym puts.tells ∙ told in
-    works_after order m n root at bytes k can (regular before).apart puts (works before)
-
--- and the node is regular
-pub put_regular : (order : Order) (m n : BlockState) (root : Root) (at : ℕ) (bytes : List ℕ) → IsConsistent m → CanPut order m root at (length bytes) → Puts order root at bytes m n
-    → (IsTrue m.tells → IsWorking order m root) → (IsTrue m.tells → IsRegular order m root) → IsTrue n.tells → IsRegular order n root
-put_regular order m n root at bytes k can puts works regular told =
-    let before : IsTrue m.tells = sym puts.tells ∙ told in
-    regular_after order m n root at bytes k can (regular before).apart puts (works before) (regular before)
+-- after bytes were put, the node can be changed
+pub put_node : (order : Order) (m n : BlockState) (root : Root) (at : ℕ) (bytes : List ℕ) → IsConsistent m → CanPut order m root at (length bytes) → Puts order root at bytes m n → IsNode order m root → IsNode order n root
+put_node order m n root at bytes k can puts is =
+    let before : IsTrue n.tells → IsTrue m.tells = λ told. sym puts.tells ∙ told in
+    record {
+      levels = subst (λ h. HasLevels h.size root) (sym puts.holdings) is.levels;
+      works = λ told. works_after order m n root at bytes k can (is.regular (before told)).apart puts (is.works (before told));
+      regular = λ told. regular_after order m n root at bytes k can (is.regular (before told)).apart puts (is.works (before told)) (is.regular (before told));
+    }
 
 -- what can be filled can be put
 pub fill_can : (order : Order) (m : BlockState) (root : Root) (at count byte : ℕ) → CanPut order m root at count → CanPut order m root at (length (replicate count byte))

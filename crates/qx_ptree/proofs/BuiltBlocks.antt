@@ -14,7 +14,7 @@ use Rattle.qx_nodes.specs.BlockMap.{BlockMap, with_bytes, word}
 use Rattle.qx_nodes.proofs.LeafPaths.{by_one}
 use Rattle.qx_nodes.proofs.MetLeaves.{present_ascends}
 use Rattle.qx_blocks.specs.BlockState.{BlockState}
-use Rattle.qx_ptree.specs.declared.fresh_blocks.Plan.{Plan}
+use Rattle.qx_ptree.specs.declared.plan.Plan.{Plan}
 use Rattle.qx_ptree.specs.Altered.{takes_fresh}
 use Rattle.qx_ptree.specs.Alterations.{Alteration, shape_in}
 use Rattle.qx_ptree.specs.Building.{Builds, HasOldPosition, IsFreshPosition, IsOldPosition, IsPlaced, LiesUnder, Row, Shows, is_kept, loses_block, new_pointer, one_block, pointer_down}

@@ -16,7 +16,7 @@ use Rattle.qx_nodes.specs.BlockMap.{BlockMap, with_bytes}
 use Rattle.qx_nodes.specs.Visits.{Visit, visits_of}
 use Rattle.qx_nodes.proofs.VisitLocality.{visits_local}
 use Rattle.qx_blocks.specs.BlockState.{BlockState, IsConsistent}
-use Rattle.qx_ptree.specs.declared.fresh_blocks.Plan.{Plan}
+use Rattle.qx_ptree.specs.declared.plan.Plan.{Plan}
 use Rattle.qx_ptree.specs.Alterations.{Alteration, shape_in}
 use Rattle.qx_ptree.specs.Altered.{keeps_block, takes_fresh}
 use Rattle.qx_ptree.specs.Building.{Builds, IsBlocksOf, IsOldPosition, LiesOutside, LiesUnder, Row, is_kept, loses_block, with_released}
@@ -104,7 +104,7 @@ module _ (m n : BlockState) (plan : Plan) (root : Root) (outside : List ℕ) (re
   old-apart k j h i there too is =
       let u : Visit = record { level = k; index = j; block = planned_pointer plan m k j } in
       let v : Visit = record { level = h; index = i; block = planned_pointer plan m h i } in
-      let same : u ≡ v = (b.told.met.regular b.told.told).apart u v (old-visit k j there) (old-visit h i too) is in
+      let same : u ≡ v = (b.told.met.node.regular b.told.told).apart u v (old-visit k j there) (old-visit h i too) is in
       (ap (λ (x : Visit). x.level) same, ap (λ (x : Visit). x.index) same)
 
   -- its blocks are the working tree's
@@ -127,7 +127,7 @@ module _ (m n : BlockState) (plan : Plan) (root : Root) (outside : List ℕ) (re
   pub old-visits : visits_of (block_map plan.order m) plan.node ≡ visits_of (block_map plan.order n) plan.node
   old-visits =
       visits_local (block_map plan.order m) n.bytes plan.node
-      (λ v c. sym (b.takes.told_bytes b.tells v.block (b.told.consistent.works_held v.block (b.told.met.works b.told.told v c))))
+      (λ v c. sym (b.takes.told_bytes b.tells v.block (b.told.consistent.works_held v.block (b.told.met.node.works b.told.told v c))))
       ∙ (λ t. visits_of (record { order = plan.order; size = sym b.takes.size t; count = sym b.takes.count t; bytes = n.bytes }) plan.node)
 
   -- ---- positions that stay

@@ -11,7 +11,7 @@ use Rattle.qx_geom.proofs.Members.{in_append_cases, in_left, in_right}
 use Rattle.qx_nodes.specs.BlockMap.{BlockMap, with_bytes}
 use Rattle.qx_nodes.specs.Visits.{Visit}
 use Rattle.qx_blocks.specs.BlockState.{BlockState}
-use Rattle.qx_ptree.specs.declared.fresh_blocks.Plan.{Plan}
+use Rattle.qx_ptree.specs.declared.plan.Plan.{Plan}
 use Rattle.qx_ptree.specs.Building.{Builds, HasOldPosition, IsFreshPosition, IsOldPosition, IsPlaced, LiesUnder, Row, Shows, new_pointer, one_block, pointer_down}
 use Rattle.qx_ptree.specs.Parts.{fresh_below}
 use Rattle.qx_ptree.specs.Plans.{alteration_in, planned_pointer}
@@ -48,7 +48,7 @@ planned_apart m plan k j h i p there same =
     let other : planned_pointer plan m h i ≢ absent = λ e. there (same ∙ e) in
     let low : (k j : ℕ) → planned_pointer plan m k j ≢ absent → k ≤ plan.node.levels = λ k j e. elim (cases_lt plan.node.levels k) [ inl above ↦ absurd (e (at_above t plan.node k j above)) | inr h ↦ h ] in
     let is : record { level = k; index = j; block = planned_pointer plan m k j } ≡ record { level = h; index = i; block = planned_pointer plan m h i } =
-    (p.met.regular p.told).apart _ _ (pointer_met t plan.node k j (planned_whole m plan p) (low k j there) there) (pointer_met t plan.node h i (planned_whole m plan p) (low h i other) other) same in
+    (p.met.node.regular p.told).apart _ _ (pointer_met t plan.node k j (planned_whole m plan p) (low k j there) there) (pointer_met t plan.node h i (planned_whole m plan p) (low h i other) other) same in
     (ap (λ (v : Visit). v.level) is, ap (λ (v : Visit). v.index) is)
 
 -- ---- rows

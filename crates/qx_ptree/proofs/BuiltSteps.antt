@@ -16,7 +16,7 @@ use Rattle.qx_geom.proofs.Truths.{true_or_false}
 use Rattle.qx_nodes.specs.BlockMap.{BlockMap, with_bytes, word}
 use Rattle.qx_nodes.proofs.LeafPaths.{by_one}
 use Rattle.qx_blocks.specs.BlockState.{BlockState, IsConsistent}
-use Rattle.qx_ptree.specs.declared.fresh_blocks.Plan.{Plan}
+use Rattle.qx_ptree.specs.declared.plan.Plan.{Plan}
 use Rattle.qx_ptree.specs.Alterations.{Alteration}
 use Rattle.qx_ptree.specs.Building.{BlockWork, Builds, IsPlaced, LeafWork, LiesUnder, Row, Shows, new_pointer, one_block, pointer_bytes, pointer_down, work_kept, work_lost, never, lost, same, edited, taken, moved, stays}
 use Rattle.qx_ptree.specs.Parts.{has_below, part_of}

@@ -9,7 +9,7 @@ use Rattle.qx_geom.specs.Pointer.{absent, per_block}
 use Rattle.qx_geom.specs.Positions.{has_position}
 use Rattle.qx_geom.specs.Touch.{is_touched}
 use Rattle.qx_blocks.specs.BlockState.{BlockState}
-use Rattle.qx_ptree.specs.declared.fresh_blocks.Plan.{Plan}
+use Rattle.qx_ptree.specs.declared.plan.Plan.{Plan}
 use Rattle.qx_ptree.specs.Altered.{keeps_block, takes_fresh}
 use Rattle.qx_ptree.specs.Alterations.{Alteration}
 use Rattle.qx_ptree.specs.Building.{Builds, HasOldPosition, IsFreshPosition, IsOldPosition, IsPlaced, LiesUnder, Row, Shows, is_kept, loses_block, new_pointer, pointer_down}

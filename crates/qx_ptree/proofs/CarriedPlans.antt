@@ -1,38 +1,27 @@
 -- What a plan says of its node after a call that took blocks: the same as before it.
-use Rattle.std.proofs.Common.{◌≡◌, ◌≢◌, ℕ, zero, suc, ◌+◌, ◌*◌, ◌-◌, ◌^◌, ◌/◌, ◌%◌, ◌<◌, ◌≤◌, inl, inr, List, length, refl, sym, ◌∙◌, ap, subst, arith}
-use Rattle.std.specs.Prelude.{Bool, true, false, not, ◌&&◌, ◌||◌, nat_le, ◌==◌, nat_lt, if◌then◌else◌, IsTrue, Contains, map, filter, replicate}
-use Rattle.std.proofs.lemmas.Bool.{cases_eq, eq-eqb, ne_eqb, or_left}
+use Rattle.std.proofs.Common.{◌≡◌, ◌≢◌, ℕ, zero, suc, ◌*◌, ◌-◌, ◌/◌, ◌%◌, ◌<◌, ◌≤◌, inl, inr, List, refl, sym, ◌∙◌, ap, subst, arith}
+use Rattle.std.specs.Prelude.{true, false, ◌||◌, ◌==◌, nat_lt, if◌then◌else◌, IsTrue, map, filter, replicate}
+use Rattle.std.proofs.lemmas.Bool.{cases_eq, eq-eqb, or_left}
 use Rattle.std.proofs.Math.Bool.{or-true, or-false}
 use Rattle.qx_fields.specs.Number.{field}
-use Rattle.std.specs.List.{list_any, range_with_len}
-use Rattle.qx_geom.specs.Layout.{levels_for}
-use Rattle.qx_geom.specs.Lists.{each_below, is_in}
+use Rattle.qx_geom.specs.Lists.{is_in}
 use Rattle.qx_geom.specs.Pointer.{absent, per_block}
 use Rattle.qx_geom.specs.Positions.{shape_after}
 use Rattle.qx_geom.proofs.Truths.{not_so, true_or_false}
 use Rattle.qx_nodes.specs.BlockMap.{BlockMap, word}
 use Rattle.qx_nodes.specs.Content.{leaf_bytes}
-use Rattle.qx_nodes.specs.ForeignNodes.{has_bare_block, has_leaf_below, has_strays, is_foreign_node, is_stray_under}
-use Rattle.qx_nodes.specs.Leaves.{leaves_below}
 use Rattle.qx_nodes.specs.Visits.{Visit, is_leaf, present_of, visits_of}
 use Rattle.qx_nodes.proofs.VisitLocality.{visits_local}
 use Rattle.qx_blocks.specs.BlockState.{BlockState, IsConsistent}
-use Rattle.qx_ptree.specs.declared.fresh_blocks.Plan.{Plan}
-use Rattle.qx_ptree.specs.Fates.{IsChange, written_by}
-use Rattle.qx_ptree.specs.Plans.{IsPlan, alteration_in, planned_pointer}
+use Rattle.qx_ptree.specs.declared.plan.Plan.{Plan}
+use Rattle.qx_ptree.specs.Fates.{written_by}
+use Rattle.qx_ptree.specs.Plans.{alteration_in, planned_pointer}
 use Rattle.qx_ptree.specs.Takings.{Takes}
-use Rattle.qx_ptree.specs.Trees.{HasLevels, IsWorking, block_map, pointer_from}
+use Rattle.qx_ptree.specs.Trees.{block_map, pointer_from}
 use Rattle.qx_ptree.proofs.LeavesByPointer.{AllNumbers, bytes_by_pointer, bytes_of_hole}
 use Rattle.qx_ptree.proofs.PointerCounts.{words_positive}
 use Rattle.qx_ptree.proofs.PlannedPointers.{IsToldPlan, planned_leads}
-use Rattle.qx_ptree.proofs.PointersByPosition.{at_from, from_step}
-
--- ---- truths
-
--- tests that are alike below a bound
-any_alike : (n a : ℕ) (f g : ℕ → Bool) → ((w : ℕ) → w < a + n → f w ≡ g w) → list_any f (map (λ w. w) (range_with_len a n)) ≡ list_any g (map (λ w. w) (range_with_len a n))
-any_alike zero a f g same = refl
-any_alike (suc n) a f g same = λ i. same a (omega arith) i || any_alike n (a + 1) f g (λ w low. same w (omega arith)) i
+use Rattle.qx_ptree.proofs.PointersByPosition.{at_from}
 
 -- ---- what a call that took blocks leaves
 
@@ -118,7 +107,7 @@ module _ (f : List ℕ) (m n : BlockState) (plan : Plan) (p : IsToldPlan m plan)
   visits_same : visits_of (block_map plan.order n) plan.node ≡ visits_of (block_map plan.order m) plan.node
   visits_same =
       (λ i. visits_of (record { order = plan.order; size = t.size i; count = t.count i; bytes = n.bytes }) plan.node)
-      ∙ sym (visits_local (block_map plan.order m) n.bytes plan.node (λ v c. sym (t.told_bytes told v.block (p.consistent.works_held v.block (p.met.works p.told v c)))))
+      ∙ sym (visits_local (block_map plan.order m) n.bytes plan.node (λ v c. sym (t.told_bytes told v.block (p.consistent.works_held v.block (p.met.node.works p.told v c)))))
 
   -- the leaves that are present
   present_same : present_of (block_map plan.order n) plan.node ≡ present_of (block_map plan.order m) plan.node
@@ -161,57 +150,3 @@ module _ (f : List ℕ) (m n : BlockState) (plan : Plan) (p : IsToldPlan m plan)
   -- all of it
   pub carried : IsConsistent n → IsCarried m n plan
   carried s = record { size = t.size; count = t.count; pointers = pointers_after; alteration = alteration_same s; bytes = pointer_bytes_same; leaves = leaves_same }
-
-  -- what is met works
-  working_after : IsWorking plan.order n plan.node
-  working_after v c = works_after f m n v.block t (p.met.works p.told v (subst (λ vs. Contains vs v) visits_same c))
-
-  -- the same blocks with the new bytes
-  abbrev refilled : BlockMap
-  refilled = record { order = plan.order; size = m.holdings.size; count = m.holdings.count; bytes = n.bytes }
-
-  -- pointers past the size
-  strays_same : (last l d index : ℕ) → l + d ≡ plan.node.levels
-      → is_stray_under refilled last l index (pointer_from (block_map plan.order m) plan.node d index) ≡ is_stray_under (block_map plan.order m) last l index (pointer_from (block_map plan.order m) plan.node d index)
-  strays_same last zero d index at = refl
-  strays_same last (suc l) d index at =
-      let P : ℕ = per_block m.holdings.size in
-      let old : BlockMap = block_map plan.order m in
-      let p : ℕ = pointer_from old plan.node d index in
-      elim (cases_eq p absent) [
-        | inl none ↦
-            ap (λ b. not b && (nat_le last (index * P ^ suc l) || list_any (λ w. is_stray_under refilled last l (index * P + w) (word refilled p w)) (each_below P (λ w. w)))) (eq-eqb p absent none)
-            ∙ sym (ap (λ b. not b && (nat_le last (index * P ^ suc l) || list_any (λ w. is_stray_under old last l (index * P + w) (word old p w)) (each_below P (λ w. w)))) (eq-eqb p absent none))
-        | inr there ↦ ap (λ x. not (p == absent) && (nat_le last (index * P ^ suc l) || x))
-            (any_alike P 0 (λ w. is_stray_under refilled last l (index * P + w) (word refilled p w)) (λ w. is_stray_under old last l (index * P + w) (word old p w)) (λ w low.
-            let below : pointer_from old plan.node (suc d) (index * P + w) ≡ word old p w = from_step old plan.node d index w (omega arith) ∙ ap (λ b. if b then absent else word old p w) (ne_eqb p absent there) in
-            ap (is_stray_under refilled last l (index * P + w)) (words_same d index w (omega arith) there)
-            ∙ subst (λ q. is_stray_under refilled last l (index * P + w) q ≡ is_stray_under old last l (index * P + w) q) below (strays_same last l (suc d) (index * P + w) (omega arith))))
-      ]
-
-  -- the node is as this project writes nodes
-  plain_same : is_foreign_node (block_map plan.order n) plan.node ≡ is_foreign_node (block_map plan.order m) plan.node
-  plain_same =
-      let old : BlockMap = block_map plan.order m in
-      let last : ℕ = leaves_below old plan.node in
-      let visits : visits_of refilled plan.node ≡ visits_of old plan.node = sym (visits_local old n.bytes plan.node (λ v c. sym (t.told_bytes told v.block (p.consistent.works_held v.block (p.met.works p.told v c))))) in
-      let strays : has_strays refilled plan.node ≡ has_strays old plan.node = any_alike 16 0 _ _ (λ j low. strays_same last plan.node.levels 0 j (omega arith)) in
-      let bare : has_bare_block refilled plan.node ≡ has_bare_block old plan.node = ap (λ vs. list_any (λ v. not (has_leaf_below old vs v)) vs) visits in
-      (λ i. is_foreign_node (record { order = plan.order; size = t.size i; count = t.count i; bytes = n.bytes }) plan.node)
-      ∙ (λ i. not (plan.node.levels == levels_for m.holdings.size last) || (strays i || bare i))
-
--- the conditions of a plan
-pub plan_after : (f : List ℕ) (m n : BlockState) (plan : Plan) → IsConsistent m → length plan.node.pointers ≡ 16 → IsPlan m plan → Takes f m n → IsPlan n plan
-plan_after f m n plan s long met t =
-    let whole : IsTrue n.tells → IsToldPlan m plan = λ told. record { consistent = s; long = long; met = met; told = t.told_before told } in
-    record {
-      levels = subst (λ k. HasLevels k plan.node) (sym t.size) met.levels;
-      change = subst (λ k. IsChange k plan.change) (sym t.size) met.change;
-      works = λ told. working_after f m n plan (whole told) t told;
-      regular = λ told. record {
-        plain = plain_same f m n plan (whole told) t told ∙ (met.regular (t.told_before told)).plain;
-        apart = λ u v a b same.
-            let vs : visits_of (block_map plan.order n) plan.node ≡ visits_of (block_map plan.order m) plan.node = visits_same f m n plan (whole told) t told in
-            (met.regular (t.told_before told)).apart u v (subst (λ xs. Contains xs u) vs a) (subst (λ xs. Contains xs v) vs b) same;
-      };
-    }

@@ -14,7 +14,7 @@ use Rattle.qx_geom.proofs.Members.{in_right}
 use Rattle.qx_geom.proofs.Truths.{or_right, true_or_false}
 use Rattle.qx_nodes.specs.Visits.{Visit}
 use Rattle.qx_blocks.specs.BlockState.{BlockState}
-use Rattle.qx_ptree.specs.declared.fresh_blocks.Plan.{Plan}
+use Rattle.qx_ptree.specs.declared.plan.Plan.{Plan}
 use Rattle.qx_ptree.specs.Alterations.{Alteration}
 use Rattle.qx_ptree.specs.Altered.{AsLeft, IsSameBlock, keeps_block}
 use Rattle.qx_ptree.specs.Building.{Shows, is_kept}

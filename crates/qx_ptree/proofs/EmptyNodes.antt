@@ -7,7 +7,7 @@ use Rattle.qx_geom.specs.Layout.{levels_for}
 use Rattle.qx_geom.specs.Pointer.{ceil_div}
 use Rattle.qx_geom.proofs.LeastLevels.{levels_for-le}
 use Rattle.qx_blocks.specs.BlockState.{BlockState, IsBlockSize}
-use Rattle.qx_ptree.specs.Trees.{IsRegular, IsWorking, empty_node}
+use Rattle.qx_ptree.specs.Trees.{IsNode, IsRegular, IsWorking, empty_node}
 use Rattle.qx_ptree.proofs.PointerCounts.{size_positive}
 
 -- it has no leaf
@@ -21,12 +21,16 @@ no_levels b some =
     omega arith
 
 -- so it is as this project writes nodes
-pub empty-regular : (order : Order) (m : BlockState) → IsBlockSize m.holdings.size → IsRegular order m empty_node
+empty-regular : (order : Order) (m : BlockState) → IsBlockSize m.holdings.size → IsRegular order m empty_node
 empty-regular order m is = record {
   plain = ap (λ l. not (0 == l) || false) (no_levels m.holdings.size (size_positive m.holdings.size is));
   apart = λ u v c d e. absurd (omega (arith, c.1));
 }
 
 -- it has no block
-pub empty-works : (order : Order) (m : BlockState) → IsWorking order m empty_node
+empty-works : (order : Order) (m : BlockState) → IsWorking order m empty_node
 empty-works order m v c = absurd (omega (arith, c.1))
+
+-- so it can be changed
+pub empty-node : (order : Order) (m : BlockState) → IsBlockSize m.holdings.size → IsNode order m empty_node
+empty-node order m is = record { levels = record { most = omega arith; reached = omega arith }; works = λ _. empty-works order m; regular = λ _. empty-regular order m is }

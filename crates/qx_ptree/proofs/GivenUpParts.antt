@@ -1,5 +1,5 @@
 -- The blocks of a part of a node, as they are noted to be given up.
-use Rattle.std.proofs.Common.{◌≡◌, ◌≢◌, ℕ, zero, suc, ◌+◌, ◌*◌, ◌-◌, ◌^◌, ◌<◌, ◌≤◌, ◌⊎◌, inl, inr, List, [], ◌∷◌, ◌++◌, length, append-nil, append_assoc, refl, sym, ◌∙◌, ap, subst, arith}
+use Rattle.std.proofs.Common.{◌≡◌, ◌≢◌, ℕ, zero, suc, ◌+◌, ◌*◌, ◌-◌, ◌^◌, ◌<◌, ◌≤◌, ◌⊎◌, inl, inr, List, [], ◌∷◌, ◌++◌, append-nil, append_assoc, refl, sym, ◌∙◌, ap, subst, arith}
 use Rattle.std.specs.Prelude.{true, false, not, IsTrue, Result, Ok}
 use Rattle.std.proofs.Math.Nat.{mul-le-mul_right}
 use Rattle.std.proofs.Math.Numerals.{sub-one}
@@ -11,7 +11,7 @@ use Rattle.qx_geom.proofs.Members.{in_append_cases, in_head, in_left, in_right}
 use Rattle.qx_blocks.specs.declared.blocks.Stop.{Stop}
 use Rattle.qx_blocks.specs.BlockState.{BlockState, IsConsistent}
 use Rattle.qx_blocks.specs.Calls.{Keeps}
-use Rattle.qx_ptree.specs.declared.fresh_blocks.Plan.{Plan}
+use Rattle.qx_ptree.specs.declared.plan.Plan.{Plan}
 use Rattle.qx_ptree.specs.Building.{GivesUp, IsBlocksOf, LiesUnder, one_block, with_released}
 use Rattle.qx_ptree.specs.Parts.{has_below}
 use Rattle.qx_ptree.specs.Plans.{InReach, IsPlan, alteration_in, planned_pointer}
@@ -125,25 +125,25 @@ gives_then m n o before mid after plan one other inside result k l a b join = re
 -- ---- as the calls give them up
 
 -- a pointer that leads nowhere has nothing below it
-pub gives_none : (m : BlockState) (plan : Plan) (level index p lead : ℕ) (w : WorkState) → IsConsistent m → length plan.node.pointers ≡ 16 → IsPlan m plan → (level ≤ plan.node.levels) ⊎ (index ≢ 0) → (IsTrue m.tells → p ≡ planned_pointer plan m level index) → (Leads m p → lead ≡ p) → lead ≡ absent
+pub gives_none : (m : BlockState) (plan : Plan) (level index p lead : ℕ) (w : WorkState) → IsConsistent m → IsPlan m plan → (level ≤ plan.node.levels) ⊎ (index ≢ 0) → (IsTrue m.tells → p ≡ planned_pointer plan m level index) → (Leads m p → lead ≡ p) → lead ≡ absent
     → GivesUp m m w w plan (LiesUnder (per_block m.holdings.size) (one_block level index)) (Ok tt)
-gives_none m plan level index p lead w s long met within is same none = record {
+gives_none m plan level index p lead w s met within is same none = record {
   blocks = [];
   is = released_none w;
   done = λ told.
-      let p_told : IsToldPlan m plan = record { consistent = s; long = long; met = met; told = told } in
+      let p_told : IsToldPlan m plan = record { consistent = s; met = met; told = told } in
       let old : planned_pointer plan m level index ≡ absent = sym (planned_lead m plan level index p lead p_told (is told) same) ∙ none in
       blocks_none m plan (LiesUnder (per_block m.holdings.size) (one_block level index)) (λ k j u. absent_under m plan level index k j p_told within old u);
 }
 
 -- a leaf is given up
-pub gives_leaf : (m : BlockState) (plan : Plan) (level index p lead : ℕ) (before after : WorkState) → IsConsistent m → length plan.node.pointers ≡ 16 → IsPlan m plan → (IsTrue m.tells → p ≡ planned_pointer plan m level index) → (Leads m p → lead ≡ p) → lead ≢ absent → level ≡ 0
+pub gives_leaf : (m : BlockState) (plan : Plan) (level index p lead : ℕ) (before after : WorkState) → IsConsistent m → IsPlan m plan → (IsTrue m.tells → p ≡ planned_pointer plan m level index) → (Leads m p → lead ≡ p) → lead ≢ absent → level ≡ 0
     → after ≡ record before { released = before.released ++ lead ∷ [] } → GivesUp m m before after plan (LiesUnder (per_block m.holdings.size) (one_block level index)) (Ok tt)
-gives_leaf m plan level index p lead before after s long met is same there leaf noted = record {
+gives_leaf m plan level index p lead before after s met is same there leaf noted = record {
   blocks = lead ∷ [];
   is = noted;
   done = λ told.
-      let p_told : IsToldPlan m plan = record { consistent = s; long = long; met = met; told = told } in
+      let p_told : IsToldPlan m plan = record { consistent = s; met = met; told = told } in
       let old : lead ≡ planned_pointer plan m 0 index = planned_lead m plan level index p lead p_told (is told) same ∙ ap (λ k. planned_pointer plan m k index) leaf in
       subst (λ q. IsBlocksOf m plan (LiesUnder (per_block m.holdings.size) (one_block level index)) (q ∷ [])) (sym old)
       (subst (λ l. IsBlocksOf m plan (LiesUnder (per_block m.holdings.size) (one_block l index)) (planned_pointer plan m 0 index ∷ [])) (sym leaf)
@@ -151,19 +151,19 @@ gives_leaf m plan level index p lead before after s long met is same there leaf 
 }
 
 -- a block is given up, and what stands below its words
-pub gives_block : (m n o : BlockState) (plan : Plan) (level index p lead words : ℕ) (before mid after : WorkState) (result : Result (Unit {0}) Stop) → IsConsistent m → length plan.node.pointers ≡ 16 → IsPlan m plan → (IsTrue m.tells → p ≡ planned_pointer plan m level index) → (Leads m p → lead ≡ p) → lead ≢ absent
+pub gives_block : (m n o : BlockState) (plan : Plan) (level index p lead words : ℕ) (before mid after : WorkState) (result : Result (Unit {0}) Stop) → IsConsistent m → IsPlan m plan → (IsTrue m.tells → p ≡ planned_pointer plan m level index) → (Leads m p → lead ≡ p) → lead ≢ absent
     → level ≢ 0 → words ≡ per_block m.holdings.size → Keeps m n → Keeps n o → mid ≡ record before { released = before.released ++ lead ∷ [] }
     → GivesUp n o mid after plan (LiesUnder (per_block n.holdings.size) (record { level = level - 1; first = index * words; count = words })) result
     → GivesUp m o before after plan (LiesUnder (per_block m.holdings.size) (one_block level index)) result
-gives_block m n o plan zero index p lead words before mid after result s long met is same there above size k l noted b = absurd (above refl)
-gives_block m n o plan (suc level) index p lead words before mid after result s long met is same there above size k l noted b = record {
+gives_block m n o plan zero index p lead words before mid after result s met is same there above size k l noted b = absurd (above refl)
+gives_block m n o plan (suc level) index p lead words before mid after result s met is same there above size k l noted b = record {
   blocks = lead ∷ b.blocks;
   is = released_twice before mid after (lead ∷ []) b.blocks noted b.is;
   done = on_ok_weaker result (λ f told.
       let told_n : IsTrue n.tells = subst (λ x. IsTrue x.tells) (l.told told) told in
       let same_n : n ≡ m = k.told told_n in
       let told_m : IsTrue m.tells = subst (λ x. IsTrue x.tells) same_n told_n in
-      let p_told : IsToldPlan m plan = record { consistent = s; long = long; met = met; told = told_m } in
+      let p_told : IsToldPlan m plan = record { consistent = s; met = met; told = told_m } in
       let P : ℕ = per_block m.holdings.size in
       let old : lead ≡ planned_pointer plan m (suc level) index = planned_lead m plan (suc level) index p lead p_told (is told_m) same in
       let below : IsBlocksOf m plan (LiesUnder P (record { level = level; first = index * P; count = P })) b.blocks =

@@ -15,11 +15,13 @@ use Rattle.qx_nodes.proofs.ContentLocality.{content_local, leaf_bytes_local, pie
 use Rattle.qx_nodes.proofs.VisitLocality.{visits_local}
 use Rattle.qx_blocks.specs.BlockState.{BlockState, IsConsistent}
 use Rattle.qx_ptree.specs.declared.change.Change.{Change}
+use Rattle.qx_ptree.specs.declared.plan.Plan.{Plan}
 use Rattle.qx_ptree.specs.Alterations.{alteration_of}
-use Rattle.qx_ptree.specs.Fates.{written_by}
+use Rattle.qx_ptree.specs.Fates.{IsChange, written_by}
 use Rattle.qx_ptree.specs.KeptNodes.{KeepsNode}
+use Rattle.qx_ptree.specs.Plans.{IsPlan}
 use Rattle.qx_ptree.specs.Takings.{LeavesOthers, Takes}
-use Rattle.qx_ptree.specs.Trees.{HasLevels, IsRegular, IsToldNode, IsWorking, block_map, pointer_at}
+use Rattle.qx_ptree.specs.Trees.{HasLevels, IsNode, IsRegular, IsToldNode, IsWorking, block_map, pointer_at}
 use Rattle.qx_ptree.proofs.AgreeingPointers.{plain_above}
 use Rattle.qx_ptree.proofs.CarriedPlans.{absent_shared, private_after, works_after}
 use Rattle.qx_ptree.proofs.LeavesByPointer.{bytes_by_pointer, bytes_of_hole}
@@ -152,3 +154,19 @@ content_kept order m n node k is = ap (λ t. content_of t node) (map_kept order 
 -- also within a leaf
 pub piece_kept : (order : Order) (m n : BlockState) (node : Root) (at count : ℕ) (k : KeepsNode order m n node) → IsToldNode order m node → at < node.size → piece_of (block_map order n) node at count ≡ piece_of (block_map order m) node at count
 piece_kept order m n node at count k is low = ap (λ t. piece_of t node at count) (map_kept order m n node k) ∙ sym (piece_local (block_map order m) n.bytes node at count (told_reaches order m node is) low (bytes_agree order m n node k))
+
+-- ---- a node that can be changed, and a plan of it
+
+-- it can be after a call that took blocks
+pub node_taken : (order : Order) (fresh : List ℕ) (m n : BlockState) (node : Root) → IsConsistent m → Takes fresh m n → IsNode order m node → IsNode order n node
+node_taken order fresh m n node s t is = record {
+  levels = subst (λ size. HasLevels size node) (sym t.size) is.levels;
+  works = λ told. working_kept order m n node (kept told) (is.works (t.told_before told));
+  regular = λ told. regular_kept order m n node (kept told) s (is.works (t.told_before told)) (is.regular (t.told_before told));
+} where
+  kept : IsTrue n.tells → KeepsNode order m n node
+  kept told = kept_taken order fresh m n node s (is.works (t.told_before told)) told t
+
+-- and so does the plan meet its conditions
+pub plan_after : (f : List ℕ) (m n : BlockState) (plan : Plan) → IsConsistent m → IsPlan m plan → Takes f m n → IsPlan n plan
+plan_after f m n plan s met t = record { node = node_taken plan.order f m n plan.node s t met.node; change = subst (λ size. IsChange size plan.change) (sym t.size) met.change }

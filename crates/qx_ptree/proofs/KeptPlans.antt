@@ -1,12 +1,14 @@
 -- What is known of a plan holds after a call that keeps the blocks as well.
 use Rattle.std.proofs.Common.{◌≡◌, ℕ, ◌^◌, ◌<◌, ◌≤◌, length, sym, ◌∙◌, ap, subst}
 use Rattle.std.specs.Prelude.{IsTrue}
+use Rattle.qx_fields.specs.declared.order.Order.{Order}
+use Rattle.qx_geom.specs.declared.root.Root.{Root}
 use Rattle.qx_blocks.specs.BlockState.{BlockState, IsBlockSize, IsConsistent}
 use Rattle.qx_blocks.specs.Calls.{Keeps}
-use Rattle.qx_ptree.specs.declared.fresh_blocks.Plan.{Plan}
+use Rattle.qx_ptree.specs.declared.plan.Plan.{Plan}
 use Rattle.qx_ptree.specs.Fates.{IsChange}
 use Rattle.qx_ptree.specs.Plans.{InReach, IsPlan, alteration_in, planned_pointer}
-use Rattle.qx_ptree.specs.Trees.{HasLevels, IsRegular, IsWorking}
+use Rattle.qx_ptree.specs.Trees.{HasLevels, IsNode, IsRegular, IsWorking}
 use Rattle.qx_ptree.specs.Parts.{part_of}
 
 -- bytes that are told after it were told before it
@@ -37,14 +39,17 @@ kept_consistent old mid k s = record {
       ap length (k.ready b was) ∙ s.ready_long b was ∙ ap (λ h. h.size) (sym k.holdings);
 }
 
+-- a node can be changed
+pub kept_node : (order : Order) (old mid : BlockState) (node : Root) → Keeps old mid → IsNode order old node → IsNode order mid node
+kept_node order old mid node k is = record {
+  levels = subst (λ h. HasLevels h.size node) (sym k.holdings) is.levels;
+  works = λ told. subst (λ x. IsWorking order x node) (sym (k.told told)) (is.works (told_before old mid k told));
+  regular = λ told. subst (λ x. IsRegular order x node) (sym (k.told told)) (is.regular (told_before old mid k told));
+}
+
 -- the plan meets its conditions
 pub kept_plan : (old mid : BlockState) (plan : Plan) → Keeps old mid → IsPlan old plan → IsPlan mid plan
-kept_plan old mid plan k p = record {
-  levels = subst (λ h. HasLevels h.size plan.node) (sym k.holdings) p.levels;
-  change = subst (λ h. IsChange h.size plan.change) (sym k.holdings) p.change;
-  works = λ told. subst (λ x. IsWorking plan.order x plan.node) (sym (k.told told)) (p.works (told_before old mid k told));
-  regular = λ told. subst (λ x. IsRegular plan.order x plan.node) (sym (k.told told)) (p.regular (told_before old mid k told));
-}
+kept_plan old mid plan k p = record { node = kept_node plan.order old mid plan.node k p.node; change = subst (λ h. IsChange h.size plan.change) (sym k.holdings) p.change }
 
 -- a position is within reach
 pub kept_reach : (old mid : BlockState) (level index : ℕ) → Keeps old mid → InReach old.holdings.size level index → InReach mid.holdings.size level index

@@ -63,3 +63,5 @@ pub mod FreshPositions
 pub mod AlteredNodes
 pub mod SeveralChanges
 pub mod CommittedHoldings
+pub mod MadePlans
+pub mod CommittedNodes

@@ -21,7 +21,7 @@ use Rattle.qx_nodes.specs.Visits.{Visit, present_of, visits_of}
 use Rattle.qx_nodes.proofs.LeafPaths.{begins_before}
 use Rattle.qx_nodes.proofs.MetLeaves.{leaf_member, leaf_visit, node_leaf_found, present_ascends}
 use Rattle.qx_blocks.specs.BlockState.{BlockState}
-use Rattle.qx_ptree.specs.declared.fresh_blocks.Plan.{Plan}
+use Rattle.qx_ptree.specs.declared.plan.Plan.{Plan}
 use Rattle.qx_ptree.specs.Alterations.{shape_in}
 use Rattle.qx_ptree.specs.Building.{Shows}
 use Rattle.qx_ptree.specs.Plans.{alteration_in, planned_pointer}

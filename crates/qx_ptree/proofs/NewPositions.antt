@@ -12,7 +12,7 @@ use Rattle.qx_geom.proofs.Truths.{not_so, true_or_false}
 use Rattle.qx_nodes.specs.BlockMap.{BlockMap, word}
 use Rattle.qx_nodes.proofs.LeafPaths.{by_one}
 use Rattle.qx_blocks.specs.BlockState.{BlockState}
-use Rattle.qx_ptree.specs.declared.fresh_blocks.Plan.{Plan}
+use Rattle.qx_ptree.specs.declared.plan.Plan.{Plan}
 use Rattle.qx_ptree.specs.Altered.{keeps_block, takes_fresh}
 use Rattle.qx_ptree.specs.Building.{IsPlaced, LiesUnder, Shows, new_pointer, pointer_down}
 use Rattle.qx_ptree.specs.Plans.{alteration_in, planned_pointer}

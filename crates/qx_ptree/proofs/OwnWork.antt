@@ -11,7 +11,7 @@ use Rattle.qx_geom.proofs.Members.{Contains-cases, in_cases, in_head}
 use Rattle.qx_geom.proofs.Truths.{true_or_false}
 use Rattle.qx_nodes.specs.Content.{leaf_bytes}
 use Rattle.qx_blocks.specs.BlockState.{BlockState}
-use Rattle.qx_ptree.specs.declared.fresh_blocks.Plan.{Plan}
+use Rattle.qx_ptree.specs.declared.plan.Plan.{Plan}
 use Rattle.qx_ptree.specs.Altered.{keeps_block, takes_fresh}
 use Rattle.qx_ptree.specs.Alterations.{Alteration}
 use Rattle.qx_ptree.specs.Building.{IsPlaced, is_kept, loses_block, work_edited, work_kept, work_lost, work_moved, work_taken}

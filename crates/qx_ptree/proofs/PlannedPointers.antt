@@ -10,7 +10,7 @@ use Rattle.qx_nodes.specs.BlockMap.{BlockMap, word}
 use Rattle.qx_nodes.specs.ForeignNodes.{has_bare_block, has_strays}
 use Rattle.qx_blocks.specs.BlockState.{BlockState, IsConsistent}
 use Rattle.qx_blocks.specs.Calls.{Keeps}
-use Rattle.qx_ptree.specs.declared.fresh_blocks.Plan.{Plan}
+use Rattle.qx_ptree.specs.declared.plan.Plan.{Plan}
 use Rattle.qx_ptree.specs.Parts.{has_below}
 use Rattle.qx_ptree.specs.Plans.{IsPlan, alteration_in, planned_pointer}
 use Rattle.qx_ptree.specs.Trees.{Leads, block_map}
@@ -23,7 +23,6 @@ use Rattle.qx_ptree.proofs.WorkingPaths.{works_below}
 -- what is known of a plan where bytes are told
 pub record IsToldPlan (m : BlockState) (plan : Plan) : Type 0 where
   pub consistent : IsConsistent m
-  pub long : length plan.node.pointers ≡ 16
   pub met : IsPlan m plan
   pub told : IsTrue m.tells
 
@@ -35,21 +34,21 @@ plain_parts a b c e = (or_left b c (or_right a (b || c) e), or_right b c (or_rig
 pub planned_whole : (m : BlockState) (plan : Plan) → IsToldPlan m plan → IsMetWhole (block_map plan.order m) plan.node
 planned_whole m plan p = record {
   words = words_positive m.holdings.size p.consistent.size;
-  long = p.long;
-  plain = (plain_parts _ (has_strays (block_map plan.order m) plan.node) (has_bare_block (block_map plan.order m) plan.node) (p.met.regular p.told).plain).0;
-  numbers = λ v c. works_below m v.block p.consistent (p.met.works p.told v c);
+  long = plan.sixteen;
+  plain = (plain_parts _ (has_strays (block_map plan.order m) plan.node) (has_bare_block (block_map plan.order m) plan.node) (p.met.node.regular p.told).plain).0;
+  numbers = λ v c. works_below m v.block p.consistent (p.met.node.works p.told v c);
 }
 
 -- and each of its pointer blocks has a present leaf
 pub planned_bare : (m : BlockState) (plan : Plan) → IsToldPlan m plan → has_bare_block (block_map plan.order m) plan.node ≡ false
-planned_bare m plan p = (plain_parts _ (has_strays (block_map plan.order m) plan.node) (has_bare_block (block_map plan.order m) plan.node) (p.met.regular p.told).plain).1
+planned_bare m plan p = (plain_parts _ (has_strays (block_map plan.order m) plan.node) (has_bare_block (block_map plan.order m) plan.node) (p.met.node.regular p.told).plain).1
 
 -- each pointer leads to a block of the working tree
 pub planned_leads : (m : BlockState) (plan : Plan) (k j : ℕ) → IsToldPlan m plan → Leads m (planned_pointer plan m k j)
 planned_leads m plan k j p there =
     elim (cases_lt plan.node.levels k) [
       | inl above ↦ absurd (there (at_above (block_map plan.order m) plan.node k j above))
-      | inr h ↦ p.met.works p.told _ (pointer_met (block_map plan.order m) plan.node k j (planned_whole m plan p) h there)
+      | inr h ↦ p.met.node.works p.told _ (pointer_met (block_map plan.order m) plan.node k j (planned_whole m plan p) h there)
     ]
 
 -- so it is what counts as leading
@@ -78,9 +77,9 @@ planned_above m plan k j p h other =
 -- ---- one level down
 
 -- the pointers below a block are the words of it, but for those of the node below the first block of a level more
-pub planned_step : (m : BlockState) (plan : Plan) (k j w q : ℕ) → IsConsistent m → length plan.node.pointers ≡ 16 → 0 < k → w < per_block m.holdings.size → (k ≡ plan.node.levels + 1 → j ≢ 0) → q ≡ planned_pointer plan m k j
+pub planned_step : (m : BlockState) (plan : Plan) (k j w q : ℕ) → IsConsistent m → 0 < k → w < per_block m.holdings.size → (k ≡ plan.node.levels + 1 → j ≢ 0) → q ≡ planned_pointer plan m k j
     → (if q == absent then absent else word (block_map plan.order m) q w) ≡ planned_pointer plan m (k - 1) (j * per_block m.holdings.size + w)
-planned_step m plan k j w q s long pos low other is =
+planned_step m plan k j w q s pos low other is =
     let t : BlockMap = block_map plan.order m in
     let words : 128 ≤ per_block m.holdings.size = (words_bounds m.holdings.size s.size).0 in
     ap (λ x. if x == absent then absent else word t x w) is ∙
@@ -88,7 +87,7 @@ planned_step m plan k j w q s long pos low other is =
       | inr h ↦ sym (pointer_below t plan.node k j w pos h low)
       | inl above ↦ ap (λ x. if x == absent then absent else word t x w) (at_above t plan.node k j above) ∙ sym (elim (cases_eq k (plan.node.levels + 1)) [
         | inl e ↦ let level : plan.node.levels ≡ k - 1 = omega arith in
-            subst (λ l. planned_pointer plan m l (j * per_block m.holdings.size + w) ≡ absent) level (none_beside t plan.node j w long (omega arith) (other e))
+            subst (λ l. planned_pointer plan m l (j * per_block m.holdings.size + w) ≡ absent) level (none_beside t plan.node j w plan.sixteen (omega arith) (other e))
         | inr ne ↦ at_above t plan.node (k - 1) (j * per_block m.holdings.size + w) (omega arith)
       ])
     ]
@@ -122,17 +121,16 @@ own_first pointers filled copied n w long is fills low =
 -- ---- down the first pointers of each level
 
 -- the node's own are those of its topmost level
-pub planned_top : (m : BlockState) (plan : Plan) (level j : ℕ) (pointers : List ℕ) → length plan.node.pointers ≡ 16 → pointers ≡ plan.node.pointers → j < 16
-    → slice_index pointers j ≡ planned_pointer plan m (plan.node.levels + level - level) j
-planned_top m plan level j pointers long is low =
+pub planned_top : (m : BlockState) (plan : Plan) (level j : ℕ) → j < 16 → slice_index plan.node.pointers j ≡ planned_pointer plan m (plan.node.levels + level - level) j
+planned_top m plan level j low =
     let top : plan.node.levels + level - level ≡ plan.node.levels = omega arith in
-    ap (λ xs. slice_index xs j) is ∙ get_or_default plan.node.pointers j 0 absent (omega arith) ∙ sym (ap (λ k. planned_pointer plan m k j) top ∙ pointer_top (block_map plan.order m) plan.node j)
+    get_or_default plan.node.pointers j 0 absent (omega (arith, low, plan.sixteen)) ∙ sym (ap (λ k. planned_pointer plan m k j) top ∙ pointer_top (block_map plan.order m) plan.node j)
 
 -- a pointer leads to a block of the working tree, after a call that keeps the blocks as well
-pub leads_after : (old mid : BlockState) (plan : Plan) (k j q : ℕ) → IsConsistent old → length plan.node.pointers ≡ 16 → IsPlan old plan → Keeps old mid → q ≡ planned_pointer plan old k j → IsTrue mid.tells → Leads mid q
-leads_after old mid plan k j q s long met keeps is told =
+pub leads_after : (old mid : BlockState) (plan : Plan) (k j q : ℕ) → IsConsistent old → IsPlan old plan → Keeps old mid → q ≡ planned_pointer plan old k j → IsTrue mid.tells → Leads mid q
+leads_after old mid plan k j q s met keeps is told =
     let same : mid ≡ old = keeps.told told in
-    subst (λ x. Leads x q) (sym same) (subst (Leads old) (sym is) (planned_leads old plan k j (record { consistent = s; long = long; met = met; told = subst (λ x. IsTrue x.tells) same told })))
+    subst (λ x. Leads x q) (sym same) (subst (Leads old) (sym is) (planned_leads old plan k j (record { consistent = s; met = met; told = subst (λ x. IsTrue x.tells) same told })))
 
 -- one level further down
 pub down_after : (old mid : BlockState) (plan : Plan) (k l w q next : ℕ) {new : BlockState} → IsConsistent old → Keeps old mid → k ≡ l + 1 → k ≤ plan.node.levels → w < 16 → (IsTrue mid.tells → q ≡ planned_pointer plan old k 0)

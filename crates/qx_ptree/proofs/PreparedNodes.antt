@@ -15,7 +15,7 @@ use Rattle.qx_nodes.specs.Content.{leaf_bytes}
 use Rattle.qx_nodes.specs.ForeignNodes.{is_foreign_node}
 use Rattle.qx_nodes.specs.Visits.{Visit, present_of, visits_of}
 use Rattle.qx_blocks.specs.BlockState.{BlockState, IsConsistent}
-use Rattle.qx_ptree.specs.declared.fresh_blocks.Plan.{Plan}
+use Rattle.qx_ptree.specs.declared.plan.Plan.{Plan}
 use Rattle.qx_ptree.specs.Alterations.{Alteration, fresh_count, shape_in}
 use Rattle.qx_ptree.specs.Altered.{Alters, AsLeft, IsPrepared, keeps_block, takes_fresh}
 use Rattle.qx_ptree.specs.Building.{BuildsTree, IsOldPosition, IsPlaced, Shows, is_kept}
@@ -209,13 +209,13 @@ module _ (m n : BlockState) (plan : Plan) (root : Root) (outside : List ℕ) (re
   }
 
 -- where the parts of a node were prepared below the new pointers, and what stands elsewhere is to be given up, the node is prepared
-pub tree-is-prepared : (m n : BlockState) (plan : Plan) (work : WorkState) (root : Root) → IsConsistent m → IsConsistent n → length plan.node.pointers ≡ 16 → length root.pointers ≡ 16 → IsPlan m plan → IsTrue n.tells
+pub tree-is-prepared : (m n : BlockState) (plan : Plan) (work : WorkState) (root : Root) → IsConsistent m → IsConsistent n → length root.pointers ≡ 16 → IsPlan m plan → IsTrue n.tells
     → Takes work.fresh m n → ((q : ℕ) → is_in work.kept q ≡ true → IsTrue (n.holdings.ready q)) → BuildsTree m n plan work root
     → IsPrepared plan.order m n (record { node = plan.node; change = plan.change; root = root; work = work })
-tree-is-prepared m n plan work root before after long long_after met tells takes ready tree =
+tree-is-prepared m n plan work root before after long_after met tells takes ready tree =
     subst (λ w. IsPrepared plan.order m n (record { node = plan.node; change = plan.change; root = root; work = w })) (sym tree.is)
     (is-prepared m n plan root tree.outside tree.rest (record {
-      told = record { consistent = before; long = long; met = met; told = takes.told_before tells };
+      told = record { consistent = before; met = met; told = takes.told_before tells };
       after = after;
       tells = tells;
       long = long_after;
@@ -238,9 +238,9 @@ pub added-takes : (m n : BlockState) (before work : WorkState) → before ≡ no
 added-takes m n before work none adds = subst (λ w. Takes w.fresh m n) (sym (added-is m n before work none adds)) adds.takes
 
 -- and the node is prepared
-pub added-is-prepared : (m n : BlockState) (plan : Plan) (before work : WorkState) (root : Root) → IsConsistent m → IsConsistent n → length plan.node.pointers ≡ 16 → length root.pointers ≡ 16 → IsPlan m plan → IsTrue n.tells
+pub added-is-prepared : (m n : BlockState) (plan : Plan) (before work : WorkState) (root : Root) → IsConsistent m → IsConsistent n → length root.pointers ≡ 16 → IsPlan m plan → IsTrue n.tells
     → before ≡ no_work → (adds : Adds m n before work) → BuildsTree m n plan adds.added root
     → IsPrepared plan.order m n (record { node = plan.node; change = plan.change; root = root; work = work })
-added-is-prepared m n plan before work root sound after long long_after met tells none adds tree =
+added-is-prepared m n plan before work root sound after long_after met tells none adds tree =
     subst (λ w. IsPrepared plan.order m n (record { node = plan.node; change = plan.change; root = root; work = w })) (sym (added-is m n before work none adds))
-    (tree-is-prepared m n plan adds.added root sound after long long_after met tells adds.takes adds.kept tree)
+    (tree-is-prepared m n plan adds.added root sound after long_after met tells adds.takes adds.kept tree)

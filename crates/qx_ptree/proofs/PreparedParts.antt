@@ -15,7 +15,7 @@ use Rattle.qx_blocks.specs.BlockState.{BlockState, IsConsistent}
 use Rattle.qx_blocks.specs.Calls.{Keeps}
 use Rattle.qx_ptree.specs.declared.change.Fate.{Fate}
 use Rattle.qx_ptree.specs.declared.change.Fate.TheVariants.{Stays, Written, Goes}
-use Rattle.qx_ptree.specs.declared.fresh_blocks.Plan.{Plan}
+use Rattle.qx_ptree.specs.declared.plan.Plan.{Plan}
 use Rattle.qx_ptree.specs.declared.part.Part.{Part}
 use Rattle.qx_ptree.specs.Alterations.{Alteration, shape_in}
 use Rattle.qx_ptree.specs.Building.{BlockWork, Builds, BuildsOnto, GivesUp, LeafWork, LiesUnder, Row, WritesBlock, WritesLeaf, one_block, with_released}
@@ -85,10 +85,10 @@ fate_here m plan index leaves size f g s g_is f_is leaves_is size_is =
     sym (ap (λ n. fate_of n plan.change index) (leaves_is ∙ leaves-are plan.change m.holdings.size size (size_positive m.holdings.size s.size) size_is)) ∙ sym g_is ∙ f_is
 
 -- the part below a block where no leaf is written, by the pointer that is known
-pub fare_part : (m : BlockState) (plan : Plan) (f : Fate) (level index p : ℕ) → IsConsistent m → length plan.node.pointers ≡ 16 → IsPlan m plan → (f ≡ Written → ⊥) → level ≤ (alteration_in plan m).new.levels → (level ≤ plan.node.levels) ⊎ (index ≢ 0)
+pub fare_part : (m : BlockState) (plan : Plan) (f : Fate) (level index p : ℕ) → IsConsistent m → IsPlan m plan → (f ≡ Written → ⊥) → level ≤ (alteration_in plan m).new.levels → (level ≤ plan.node.levels) ⊎ (index ≢ 0)
     → (IsTrue m.tells → p ≡ planned_pointer plan m level index) → AllFare m.holdings.size plan.change f level index → IsTrue m.tells → part_of (alteration_in plan m) level index ≡ leaf_part f (not (p == absent)) true
-fare_part m plan f level index p s long met un low within is all told =
-    planned_fare m plan f level index (record { consistent = s; long = long; met = met; told = told }) un low within all ∙ ap (λ q. leaf_part f (not (q == absent)) true) (sym (is told))
+fare_part m plan f level index p s met un low within is all told =
+    planned_fare m plan f level index (record { consistent = s; met = met; told = told }) un low within all ∙ ap (λ q. leaf_part f (not (q == absent)) true) (sym (is told))
 
 -- ---- parts that are not gone through
 
@@ -103,36 +103,36 @@ adds_given m n before after blocks k is = record {
 }
 
 -- a part that stays
-pub quiet_onto : (m : BlockState) (plan : Plan) (level index p : ℕ) (w : WorkState) → IsConsistent m → length plan.node.pointers ≡ 16 → IsPlan m plan → level ≤ (alteration_in plan m).new.levels → (level ≤ plan.node.levels) ⊎ (index ≢ 0)
+pub quiet_onto : (m : BlockState) (plan : Plan) (level index p : ℕ) (w : WorkState) → IsConsistent m → IsPlan m plan → level ≤ (alteration_in plan m).new.levels → (level ≤ plan.node.levels) ⊎ (index ≢ 0)
     → (IsTrue m.tells → p ≡ planned_pointer plan m level index) → AllFare m.holdings.size plan.change Stays level index → BuildsOnto m m w w plan (one_block level index) (λ _. p)
-quiet_onto m plan level index p w s long met low within is all = record {
+quiet_onto m plan level index p w s met low within is all = record {
   adds = adds_none m m w w (Takes-same m) refl;
   builds = λ told free.
-      let p_told : IsToldPlan m plan = record { consistent = s; long = long; met = met; told = told } in
+      let p_told : IsToldPlan m plan = record { consistent = s; met = met; told = told } in
       let part : part_of (alteration_in plan m) level index ≡ leaf_part Stays (not (planned_pointer plan m level index == absent)) true = planned_fare m plan Stays level index p_told (λ e. absurd (cc)) low within all in
       subst (λ q. Builds m m plan no_work (one_block level index) (λ _. q)) (sym (is told))
       (builds_quiet m m plan p_told level index low within (ap (λ (x : Part). x.changed) part) (ap (λ (x : Part). x.need) part));
 }
 
 -- a part that goes
-pub gone_onto : (m n : BlockState) (plan : Plan) (level index : ℕ) (before after : WorkState) → IsConsistent m → length plan.node.pointers ≡ 16 → IsPlan m plan → level ≤ (alteration_in plan m).new.levels → (level ≤ plan.node.levels) ⊎ (index ≢ 0)
+pub gone_onto : (m n : BlockState) (plan : Plan) (level index : ℕ) (before after : WorkState) → IsConsistent m → IsPlan m plan → level ≤ (alteration_in plan m).new.levels → (level ≤ plan.node.levels) ⊎ (index ≢ 0)
     → AllFare m.holdings.size plan.change Goes level index → Keeps m n → GivesUp m n before after plan (LiesUnder (per_block m.holdings.size) (one_block level index)) (Ok tt) → BuildsOnto m n before after plan (one_block level index) (λ _. absent)
-gone_onto m n plan level index before after s long met low within all k g = record {
+gone_onto m n plan level index before after s met low within all k g = record {
   adds = adds_given m n before after g.blocks k g.is;
   builds = λ told free.
-      let p_told : IsToldPlan m plan = record { consistent = s; long = long; met = met; told = told_before m n k told } in
+      let p_told : IsToldPlan m plan = record { consistent = s; met = met; told = told_before m n k told } in
       let part : part_of (alteration_in plan m) level index ≡ leaf_part Goes (not (planned_pointer plan m level index == absent)) true = planned_fare m plan Goes level index p_told (λ e. absurd (cc)) low within all in
       builds_gone m n plan p_told level index low (ap (λ (x : Part). x.present) part) g.blocks (ap (λ (x : Part). x.need) part) (g.done told);
 }
 
 -- a leaf that is written
-pub leaf_onto : (m n : BlockState) (plan : Plan) (index p q : ℕ) (before after : WorkState) → IsConsistent m → length plan.node.pointers ≡ 16 → IsPlan m plan → (IsTrue m.tells → p ≡ planned_pointer plan m 0 index)
+pub leaf_onto : (m n : BlockState) (plan : Plan) (index p q : ℕ) (before after : WorkState) → IsConsistent m → IsPlan m plan → (IsTrue m.tells → p ≡ planned_pointer plan m 0 index)
     → fate_of (leaves_after m.holdings.size plan.change) plan.change index ≡ Written → WritesLeaf m n before after p q → BuildsOnto m n before after plan (one_block 0 index) (λ _. q)
-leaf_onto m n plan index p q before after s long met is fate w = record {
+leaf_onto m n plan index p q before after s met is fate w = record {
   adds = w.adds;
   builds = λ told free.
       let told_m : IsTrue m.tells = w.adds.takes.told_before told in
-      let p_told : IsToldPlan m plan = record { consistent = s; long = long; met = met; told = told_m } in
+      let p_told : IsToldPlan m plan = record { consistent = s; met = met; told = told_m } in
       let part = written_part m plan index p_told fate in
       builds_leaf m n plan p_told w.adds.added index q
       (leaf_own m n plan index q w.adds.added p_told told (ap (λ (x : Part). x.changed) part) (ap (λ (x : Part). x.present) part) (subst (λ x. LeafWork m n x q w.adds.added) (is told_m) w.work));
@@ -173,9 +173,9 @@ present_all m plan (suc l) index s above =
     ∙ sym (below-up m.holdings.size a.new.present l index (words_positive m.holdings.size s.size))
 
 -- a part is the same over blocks that were taken since
-pub part_later : (f : List ℕ) (m n : BlockState) (plan : Plan) (level index : ℕ) → IsConsistent m → IsConsistent n → length plan.node.pointers ≡ 16 → IsPlan m plan → Takes f m n → IsTrue n.tells → part_of (alteration_in plan n) level index ≡ part_of (alteration_in plan m) level index
-part_later f m n plan level index s s_n long met t told =
-    ap (λ a. part_of a level index) (carried f m n plan (record { consistent = s; long = long; met = met; told = t.told_before told }) t told s_n).alteration
+pub part_later : (f : List ℕ) (m n : BlockState) (plan : Plan) (level index : ℕ) → IsConsistent m → IsConsistent n → IsPlan m plan → Takes f m n → IsTrue n.tells → part_of (alteration_in plan n) level index ≡ part_of (alteration_in plan m) level index
+part_later f m n plan level index s s_n met t told =
+    ap (λ a. part_of a level index) (carried f m n plan (record { consistent = s; met = met; told = t.told_before told }) t told s_n).alteration
 
 -- ---- rows
 
@@ -188,33 +188,33 @@ pub free_before : (f : List ℕ) (m n : BlockState) → Takes f m n → n.holdin
 free_before f m n t free = not_so (m.holdings.held absent) (λ h. true_or_false (n.holdings.held absent) (held_after f m n absent t h) free)
 
 -- one word more
-pub row_onto_more : (m n o : BlockState) (before mid after : WorkState) (plan : Plan) (level first count q : ℕ) (tops more : ℕ → ℕ) → IsConsistent m → IsConsistent n → length plan.node.pointers ≡ 16 → IsPlan m plan
+pub row_onto_more : (m n o : BlockState) (before mid after : WorkState) (plan : Plan) (level first count q : ℕ) (tops more : ℕ → ℕ) → IsConsistent m → IsConsistent n → IsPlan m plan
     → ((j : ℕ) → first ≤ j → j < first + count → more j ≡ tops j) → more (first + count) ≡ q
     → BuildsOnto m n before mid plan (record { level = level; first = first; count = count }) tops → BuildsOnto n o mid after plan (one_block level (first + count)) (λ _. q)
     → BuildsOnto m o before after plan (record { level = level; first = first; count = count + 1 }) more
-row_onto_more m n o before mid after plan level first count q tops more s s_n long met alike last a b = record {
+row_onto_more m n o before mid after plan level first count q tops more s s_n met alike last a b = record {
   adds = adds_then m n o before mid after a.adds b.adds;
   builds = λ told free.
       let told_n : IsTrue n.tells = b.adds.takes.told_before told in
-      row_step m n o plan a.adds.added b.adds.added level first count q tops more (record { consistent = s; long = long; met = met; told = a.adds.takes.told_before told_n }) s_n told alike last a.adds.takes b.adds.takes
+      row_step m n o plan a.adds.added b.adds.added level first count q tops more (record { consistent = s; met = met; told = a.adds.takes.told_before told_n }) s_n told alike last a.adds.takes b.adds.takes
       (a.builds told_n (free_before b.adds.added.fresh n o b.adds.takes free)) (b.builds told free);
 }
 
 -- the block above a row
-pub block_onto : (m n o : BlockState) (before mid after : WorkState) (plan : Plan) (level index p q : ℕ) (tops : ℕ → ℕ) (pointers : List ℕ) (changed present : Bool) → IsConsistent m → length plan.node.pointers ≡ 16 → IsPlan m plan → level ≢ 0 → level ≤ (alteration_in plan m).new.levels
+pub block_onto : (m n o : BlockState) (before mid after : WorkState) (plan : Plan) (level index p q : ℕ) (tops : ℕ → ℕ) (pointers : List ℕ) (changed present : Bool) → IsConsistent m → IsPlan m plan → level ≢ 0 → level ≤ (alteration_in plan m).new.levels
     → (IsTrue m.tells → p ≡ planned_pointer plan m level index)
     → length pointers ≡ per_block m.holdings.size → ((v : ℕ) → v < length pointers → slice_index pointers v < 2 ^ 32) → ((v : ℕ) → v < per_block m.holdings.size → slice_index pointers v ≡ tops (index * per_block m.holdings.size + v))
     → (IsTrue n.tells → (part_of (alteration_in plan m) level index).changed ≡ changed) → (IsTrue n.tells → (part_of (alteration_in plan m) level index).present ≡ present)
     → BuildsOnto m n before mid plan (record { level = level - 1; first = index * per_block m.holdings.size; count = per_block m.holdings.size }) tops → WritesBlock plan.order n o mid after p pointers changed present q
     → BuildsOnto m o before after plan (one_block level index) (λ _. q)
-block_onto m n o before mid after plan zero index p q tops pointers changed present s long met above within is long_p fits tops_are changed_is present_is a b = absurd (above refl)
-block_onto m n o before mid after plan (suc l) index p q tops pointers changed present s long met above within is long_p fits tops_are changed_is present_is a b = record {
+block_onto m n o before mid after plan zero index p q tops pointers changed present s met above within is long_p fits tops_are changed_is present_is a b = absurd (above refl)
+block_onto m n o before mid after plan (suc l) index p q tops pointers changed present s met above within is long_p fits tops_are changed_is present_is a b = record {
   adds = adds_then m n o before mid after a.adds b.adds;
   builds = λ told free.
       let told_n : IsTrue n.tells = b.adds.takes.told_before told in
       let told_m : IsTrue m.tells = a.adds.takes.told_before told_n in
       let P : ℕ = per_block m.holdings.size in
-      block_step m n o plan a.adds.added b.adds.added l index q tops pointers changed present (record { consistent = s; long = long; met = met; told = told_m }) free told within long_p fits tops_are
+      block_step m n o plan a.adds.added b.adds.added l index q tops pointers changed present (record { consistent = s; met = met; told = told_m }) free told within long_p fits tops_are
       (changed_is told_n) (present_is told_n) a.adds.takes b.adds.takes
       (subst (λ k. Builds m n plan a.adds.added (record { level = k; first = index * P; count = P }) tops) (sub-one (suc l)) (a.builds told_n (free_before b.adds.added.fresh n o b.adds.takes free)))
       (subst (λ x. BlockWork plan.order n o x pointers changed present q b.adds.added) (is told_m) b.work);

@@ -14,7 +14,7 @@ use Rattle.qx_geom.proofs.ImagesAndFilters.{any_image, image_any}
 use Rattle.qx_geom.proofs.Truths.{not_so, true_or_false, same_truth}
 use Rattle.qx_nodes.specs.BlockMap.{BlockMap, with_bytes, word}
 use Rattle.qx_blocks.specs.BlockState.{BlockState}
-use Rattle.qx_ptree.specs.declared.fresh_blocks.Plan.{Plan}
+use Rattle.qx_ptree.specs.declared.plan.Plan.{Plan}
 use Rattle.qx_ptree.specs.Altered.{keeps_block, takes_fresh}
 use Rattle.qx_ptree.specs.Alterations.{Alteration}
 use Rattle.qx_ptree.specs.Building.{Builds, IsBlocksOf, IsOldPosition, IsPlaced, LiesUnder, Shows, is_kept, loses_block, one_block, pointer_down, with_released}

@@ -16,7 +16,7 @@ use Rattle.qx_geom.specs.Pointer.{absent, per_block}
 use Rattle.qx_nodes.proofs.LeafPaths.{by_one}
 use Rattle.qx_nodes.specs.BlockMap.{BlockMap, with_bytes, word}
 use Rattle.qx_blocks.specs.BlockState.{BlockState, IsConsistent}
-use Rattle.qx_ptree.specs.declared.fresh_blocks.Plan.{Plan}
+use Rattle.qx_ptree.specs.declared.plan.Plan.{Plan}
 use Rattle.qx_ptree.specs.Building.{BlockWork, never, lost, same, edited, taken, moved, Row, new_pointer, one_block, pointer_bytes, pointer_down}
 use Rattle.qx_ptree.specs.Reaching.{HasEdits, IsOwnPosition, Owns, Reaches, ShowsOwn, own_blocks}
 use Rattle.qx_ptree.specs.Takings.{Takes}

@@ -10,7 +10,7 @@ use Rattle.qx_geom.specs.Pointer.{per_block}
 use Rattle.qx_geom.specs.Positions.{index_above}
 use Rattle.qx_nodes.specs.BlockMap.{with_bytes}
 use Rattle.qx_blocks.specs.BlockState.{BlockState}
-use Rattle.qx_ptree.specs.declared.fresh_blocks.Plan.{Plan}
+use Rattle.qx_ptree.specs.declared.plan.Plan.{Plan}
 use Rattle.qx_ptree.specs.Building.{LeafWork, taken, stays, moved, LiesUnder, Row, new_pointer, one_block, pointer_down, with_released}
 use Rattle.qx_ptree.specs.Fates.{is_written}
 use Rattle.qx_ptree.specs.Reaching.{IsOwnPosition, Reaches, own_blocks}

@@ -15,7 +15,7 @@ use Rattle.qx_blocks.specs.declared.blocks.Stop.{Stop}
 use Rattle.qx_ptree.specs.declared.change.Change.{Change}
 use Rattle.qx_ptree.specs.declared.change.Fate.{Fate}
 use Rattle.qx_ptree.specs.declared.change.Fate.TheVariants.{Stays, Written, Goes}
-use Rattle.qx_ptree.specs.declared.fresh_blocks.Plan.{Plan}
+use Rattle.qx_ptree.specs.declared.plan.Plan.{Plan}
 use Rattle.qx_ptree.specs.Building.{GivesUp, LiesUnder, Row, WritesBlock, WritesLeaf, one_block, with_released}
 use Rattle.qx_ptree.specs.Fates.{IsChange, fate_of, is_gone, is_written, leaves_after}
 use Rattle.qx_ptree.specs.Reaching.{IsMarked, IsOwnPosition, Reaches, ReachesOnto}

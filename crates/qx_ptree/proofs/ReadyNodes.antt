@@ -10,7 +10,7 @@ use Rattle.qx_geom.specs.Lists.{Distinct, is_in}
 use Rattle.qx_geom.specs.Pointer.{absent, per_block}
 use Rattle.qx_nodes.specs.BlockMap.{BlockMap}
 use Rattle.qx_blocks.specs.BlockState.{BlockState, Holdings}
-use Rattle.qx_ptree.specs.declared.fresh_blocks.Plan.{Plan}
+use Rattle.qx_ptree.specs.declared.plan.Plan.{Plan}
 use Rattle.qx_ptree.specs.Building.{Row, new_pointer, pointer_down}
 use Rattle.qx_ptree.specs.Fates.{is_written}
 use Rattle.qx_ptree.specs.Reaching.{IsOwnPosition, Reaches, ShowsOwn, own_blocks}

@@ -1,5 +1,5 @@
 -- The blocks of a node that don't stand below the first 16 blocks of a level.
-use Rattle.std.proofs.Common.{◌≡◌, ◌≢◌, ℕ, zero, suc, ◌+◌, ◌*◌, ◌-◌, ◌^◌, ◌/◌, ◌<◌, ◌≤◌, inl, inr, List, [], ◌∷◌, ◌++◌, length, refl, sym, ◌∙◌, ap, subst, arith, pow-add}
+use Rattle.std.proofs.Common.{◌≡◌, ◌≢◌, ℕ, zero, suc, ◌+◌, ◌*◌, ◌-◌, ◌^◌, ◌/◌, ◌<◌, ◌≤◌, inl, inr, List, [], ◌∷◌, ◌++◌, refl, sym, ◌∙◌, ap, subst, arith, pow-add}
 use Rattle.std.specs.Prelude.{IsTrue, Result, Ok}
 use Rattle.std.proofs.Math.Nat.{div-div-eq-div-mul, div-eq_of_lt, div-le_self, one-mul, pow-le-pow_right, pow-suc, pow-zero}
 use Rattle.std.proofs.lemmas.Bool.{cases_eq, cases_lt}
@@ -9,7 +9,7 @@ use Rattle.qx_nodes.proofs.LeafPaths.{by_one}
 use Rattle.qx_blocks.specs.BlockState.{BlockState, IsConsistent}
 use Rattle.qx_blocks.specs.declared.blocks.Stop.{Stop}
 use Rattle.qx_blocks.specs.Calls.{Keeps}
-use Rattle.qx_ptree.specs.declared.fresh_blocks.Plan.{Plan}
+use Rattle.qx_ptree.specs.declared.plan.Plan.{Plan}
 use Rattle.qx_ptree.specs.Building.{GivesUp, IsBlocksOf, LiesOnSpine, LiesOutside, LiesUnder}
 use Rattle.qx_ptree.specs.Plans.{IsPlan, planned_pointer}
 use Rattle.qx_ptree.specs.Trees.{Leads, block_map}
@@ -75,7 +75,7 @@ below_own m plan k j p there =
     let x : ℕ = j / P ^ (top - k) in
     let up : planned_pointer plan m (k + (top - k)) x ≢ absent = above_there m plan (top - k) k j p (omega arith) there in
     let level : k + (top - k) ≡ top = omega arith in
-    (low, elim (cases_lt x 16) [ inl few ↦ few | inr many ↦ absurd (up (ap (λ l. planned_pointer plan m l x) level ∙ pointer_past t plan.node x p.long many)) ])
+    (low, elim (cases_lt x 16) [ inl few ↦ few | inr many ↦ absurd (up (ap (λ l. planned_pointer plan m l x) level ∙ pointer_past t plan.node x plan.sixteen many)) ])
 
 -- no pointer lies outside a level that isn't below the node's
 pub none_outside : (m : BlockState) (plan : Plan) (level k j : ℕ) → IsToldPlan m plan → plan.node.levels ≤ level → LiesOutside (per_block m.holdings.size) level k j → planned_pointer plan m k j ≡ absent
@@ -169,59 +169,59 @@ outside_all m plan level xs ys p up a b =
 -- ---- as the calls give them up
 
 -- the block of a position by itself, over blocks that were kept
-pub gives_own : (m n : BlockState) (plan : Plan) (level index p lead : ℕ) (before after : WorkState) → IsConsistent m → length plan.node.pointers ≡ 16 → IsPlan m plan → (IsTrue m.tells → p ≡ planned_pointer plan m level index) → (Leads m p → lead ≡ p) → lead ≢ absent → Keeps m n
+pub gives_own : (m n : BlockState) (plan : Plan) (level index p lead : ℕ) (before after : WorkState) → IsConsistent m → IsPlan m plan → (IsTrue m.tells → p ≡ planned_pointer plan m level index) → (Leads m p → lead ≡ p) → lead ≢ absent → Keeps m n
     → after ≡ record before { released = before.released ++ lead ∷ [] } → GivesUp m n before after plan (λ k j. (k ≡ level) × (j ≡ index)) (Ok tt)
-gives_own m n plan level index p lead before after s long met is same there keeps noted = record {
+gives_own m n plan level index p lead before after s met is same there keeps noted = record {
   blocks = lead ∷ [];
   is = noted;
   done = λ told.
       let told_m : IsTrue m.tells = told_before m n keeps told in
-      let old : lead ≡ planned_pointer plan m level index = planned_lead m plan level index p lead (record { consistent = s; long = long; met = met; told = told_m }) (is told_m) same in
+      let old : lead ≡ planned_pointer plan m level index = planned_lead m plan level index p lead (record { consistent = s; met = met; told = told_m }) (is told_m) same in
       subst (λ q. IsBlocksOf m plan (λ k j. (k ≡ level) × (j ≡ index)) (q ∷ [])) (sym old)
       (blocks_one m plan (λ k j. (k ≡ level) × (j ≡ index)) level index (refl, refl) (λ e. there (old ∙ e)) (λ h i at. at));
 }
 
 -- a spine without a first block
-pub spine_gives_none : (m : BlockState) (plan : Plan) (level above p lead : ℕ) (w : WorkState) → IsConsistent m → length plan.node.pointers ≡ 16 → IsPlan m plan → above ≤ plan.node.levels → (IsTrue m.tells → p ≡ planned_pointer plan m above 0) → (Leads m p → lead ≡ p) → lead ≡ absent
+pub spine_gives_none : (m : BlockState) (plan : Plan) (level above p lead : ℕ) (w : WorkState) → IsConsistent m → IsPlan m plan → above ≤ plan.node.levels → (IsTrue m.tells → p ≡ planned_pointer plan m above 0) → (Leads m p → lead ≡ p) → lead ≡ absent
     → GivesUp m m w w plan (LiesOnSpine (per_block m.holdings.size) level above) (Ok tt)
-spine_gives_none m plan level above p lead w s long met low is same none = record {
+spine_gives_none m plan level above p lead w s met low is same none = record {
   blocks = [];
   is = released_none w;
   done = λ told.
-      let p_told : IsToldPlan m plan = record { consistent = s; long = long; met = met; told = told } in
+      let p_told : IsToldPlan m plan = record { consistent = s; met = met; told = told } in
       let old : planned_pointer plan m above 0 ≡ absent = sym (planned_lead m plan above 0 p lead p_told (is told) same) ∙ none in
       blocks_none m plan (LiesOnSpine (per_block m.holdings.size) level above) (λ k j h. spine_none m plan level above k j p_told low old h);
 }
 
 -- the last block of a spine
-pub spine_gives_last : (m n o : BlockState) (plan : Plan) (level above p lead words : ℕ) (before mid after : WorkState) (result : Result (Unit {0}) Stop) → IsConsistent m → length plan.node.pointers ≡ 16 → IsPlan m plan → (IsTrue m.tells → p ≡ planned_pointer plan m above 0) → (Leads m p → lead ≡ p)
+pub spine_gives_last : (m n o : BlockState) (plan : Plan) (level above p lead words : ℕ) (before mid after : WorkState) (result : Result (Unit {0}) Stop) → IsConsistent m → IsPlan m plan → (IsTrue m.tells → p ≡ planned_pointer plan m above 0) → (Leads m p → lead ≡ p)
     → lead ≢ absent → level < above → above - 1 ≡ level → words ≡ per_block m.holdings.size → Keeps m n → Keeps n o → mid ≡ record before { released = before.released ++ lead ∷ [] }
     → GivesUp n o mid after plan (LiesUnder (per_block n.holdings.size) (record { level = level; first = 16; count = words - 16 })) result
     → GivesUp m o before after plan (LiesOnSpine (per_block m.holdings.size) level above) result
-spine_gives_last m n o plan level above p lead words before mid after result s long met is same there up next size k l noted b =
+spine_gives_last m n o plan level above p lead words before mid after result s met is same there up next size k l noted b =
     let P : ℕ = per_block m.holdings.size in
     let bounds : 128 ≤ P = (words_bounds m.holdings.size s.size).0 in
     let above_is : suc level ≡ above = omega arith in
     gives_then m n o before mid after plan (λ P k j. (k ≡ above) × (j ≡ 0)) (λ P. LiesUnder P (record { level = level; first = 16; count = words - 16 })) (λ P. LiesOnSpine P level above) result k l
-    (gives_own m n plan above 0 p lead before mid s long met is same there k noted) b
+    (gives_own m n plan above 0 p lead before mid s met is same there k noted) b
     (λ told xs ys a c.
     subst (λ x. IsBlocksOf m plan (LiesOnSpine P level x) (xs ++ ys)) above_is
     (spine_last m plan P level xs ys (omega arith) (subst (λ x. IsBlocksOf m plan (λ k j. (k ≡ x) × (j ≡ 0)) xs) (sym above_is) a)
     (subst (λ x. IsBlocksOf m plan (LiesUnder P (record { level = level; first = 16; count = x - 16 })) ys) size c)))
 
 -- one that isn't the last
-pub spine_gives_more : (m n o q : BlockState) (plan : Plan) (level above p lead words : ℕ) (before mid next after : WorkState) (result : Result (Unit {0}) Stop) → IsConsistent m → length plan.node.pointers ≡ 16 → IsPlan m plan → (IsTrue m.tells → p ≡ planned_pointer plan m above 0) → (Leads m p → lead ≡ p)
+pub spine_gives_more : (m n o q : BlockState) (plan : Plan) (level above p lead words : ℕ) (before mid next after : WorkState) (result : Result (Unit {0}) Stop) → IsConsistent m → IsPlan m plan → (IsTrue m.tells → p ≡ planned_pointer plan m above 0) → (Leads m p → lead ≡ p)
     → lead ≢ absent → level < above → above - 1 ≢ level → words ≡ per_block m.holdings.size → Keeps m n → Keeps n o → Keeps o q → mid ≡ record before { released = before.released ++ lead ∷ [] }
     → GivesUp n o mid next plan (LiesUnder (per_block n.holdings.size) (record { level = above - 1; first = 1; count = words - 1 })) (Ok tt)
     → GivesUp o q next after plan (LiesOnSpine (per_block o.holdings.size) level (above - 1)) result
     → GivesUp m q before after plan (LiesOnSpine (per_block m.holdings.size) level above) result
-spine_gives_more m n o q plan level above p lead words before mid next after result s long met is same there up other size k l r noted b c =
+spine_gives_more m n o q plan level above p lead words before mid next after result s met is same there up other size k l r noted b c =
     let P : ℕ = per_block m.holdings.size in
     let bounds : 128 ≤ P = (words_bounds m.holdings.size s.size).0 in
     let above_is : suc (above - 1) ≡ above = omega arith in
     let size_n : words ≡ per_block n.holdings.size = size ∙ ap (λ h. per_block h.size) (sym k.holdings) in
     gives_then m n q before mid after plan (λ P k j. (k ≡ above) × (j ≡ 0)) (LiesBetween level (above - 1)) (λ P. LiesOnSpine P level above) result k (kept_again n o q l r)
-    (gives_own m n plan above 0 p lead before mid s long met is same there k noted)
+    (gives_own m n plan above 0 p lead before mid s met is same there k noted)
     (gives_then n o q mid next after plan (λ P. LiesUnder P (record { level = above - 1; first = 1; count = words - 1 })) (λ P. LiesOnSpine P level (above - 1)) (LiesBetween level (above - 1)) result l r b c
     (λ told ys zs x y.
     spine_rest n plan (per_block n.holdings.size) level (above - 1) ys zs (omega (arith, bounds, size, size_n)) (omega arith)
@@ -231,17 +231,17 @@ spine_gives_more m n o q plan level above p lead words before mid next after res
     (spine_more m plan P level (above - 1) xs ws (omega arith) (omega arith) (subst (λ z. IsBlocksOf m plan (λ k j. (k ≡ z) × (j ≡ 0)) xs) (sym above_is) x) y))
 
 -- nothing lies outside a level that isn't below the node's
-pub outside_gives_none : (m : BlockState) (plan : Plan) (level : ℕ) (w : WorkState) → IsConsistent m → length plan.node.pointers ≡ 16 → IsPlan m plan → plan.node.levels ≤ level → GivesUp m m w w plan (LiesOutside (per_block m.holdings.size) level) (Ok tt)
-outside_gives_none m plan level w s long met high = record {
+pub outside_gives_none : (m : BlockState) (plan : Plan) (level : ℕ) (w : WorkState) → IsConsistent m → IsPlan m plan → plan.node.levels ≤ level → GivesUp m m w w plan (LiesOutside (per_block m.holdings.size) level) (Ok tt)
+outside_gives_none m plan level w s met high = record {
   blocks = [];
   is = released_none w;
-  done = λ told. blocks_none m plan (LiesOutside (per_block m.holdings.size) level) (λ k j out. none_outside m plan level k j (record { consistent = s; long = long; met = met; told = told }) high out);
+  done = λ told. blocks_none m plan (LiesOutside (per_block m.holdings.size) level) (λ k j out. none_outside m plan level k j (record { consistent = s; met = met; told = told }) high out);
 }
 
 -- and what lies outside a lower one
-pub outside_gives : (m n o : BlockState) (plan : Plan) (level : ℕ) (before mid after : WorkState) (result : Result (Unit {0}) Stop) → IsConsistent m → length plan.node.pointers ≡ 16 → IsPlan m plan → level < plan.node.levels → Keeps m n → Keeps n o
+pub outside_gives : (m n o : BlockState) (plan : Plan) (level : ℕ) (before mid after : WorkState) (result : Result (Unit {0}) Stop) → IsConsistent m → IsPlan m plan → level < plan.node.levels → Keeps m n → Keeps n o
     → GivesUp m n before mid plan (LiesUnder (per_block m.holdings.size) (record { level = plan.node.levels; first = 1; count = 15 })) (Ok tt) → GivesUp n o mid after plan (LiesOnSpine (per_block n.holdings.size) level plan.node.levels) result
     → GivesUp m o before after plan (LiesOutside (per_block m.holdings.size) level) result
-outside_gives m n o plan level before mid after result s long met up k l a b =
+outside_gives m n o plan level before mid after result s met up k l a b =
     gives_then m n o before mid after plan (λ P. LiesUnder P (record { level = plan.node.levels; first = 1; count = 15 })) (λ P. LiesOnSpine P level plan.node.levels) (λ P. LiesOutside P level) result k l a b
-    (λ told xs ys x y. outside_all m plan level xs ys (record { consistent = s; long = long; met = met; told = told }) up x y)
+    (λ told xs ys x y. outside_all m plan level xs ys (record { consistent = s; met = met; told = told }) up x y)

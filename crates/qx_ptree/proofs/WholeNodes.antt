@@ -7,7 +7,7 @@ use Rattle.qx_geom.specs.Pointer.{absent, per_block}
 use Rattle.qx_blocks.specs.BlockState.{BlockState, IsConsistent}
 use Rattle.qx_blocks.specs.Calls.{Keeps}
 use Rattle.qx_blocks.specs.declared.blocks.Stop.{Stop}
-use Rattle.qx_ptree.specs.declared.fresh_blocks.Plan.{Plan}
+use Rattle.qx_ptree.specs.declared.plan.Plan.{Plan}
 use Rattle.qx_ptree.specs.Building.{Builds, BuildsOnto, GivesUp, IsBlocksOf, LiesOutside, Row, one_block, with_released}
 use Rattle.qx_ptree.specs.BuiltNode.{BuildsNode}
 use Rattle.qx_ptree.specs.Fates.{leaves_after}
@@ -61,9 +61,9 @@ built-there m n a b plan row tops built adds told free =
     subst (λ w. Builds m n plan w row tops) (same-added a b built.adds.added adds.added built.adds.is adds.is) (built.builds told free)
 
 -- one pointer more
-pub underway_more : (m n o : BlockState) (a b c : WorkState) (plan : Plan) (level j p : ℕ) (pointers : List ℕ) → IsConsistent m → length plan.node.pointers ≡ 16 → IsPlan m plan → IsConsistent n → j < length pointers
+pub underway_more : (m n o : BlockState) (a b c : WorkState) (plan : Plan) (level j p : ℕ) (pointers : List ℕ) → IsConsistent m → IsPlan m plan → IsConsistent n → j < length pointers
     → IsUnderway m n a b plan level j pointers → BuildsOnto n o b c plan (one_block level j) (λ x. p) → ReachesOnto n o b c plan (one_block level j) (λ x. p) → IsUnderway m o a c plan level (j + 1) (set pointers j p)
-underway_more m n o a b c plan level j p pointers s long met s_n low u built reached =
+underway_more m n o a b c plan level j p pointers s met s_n low u built reached =
     let taken : Takes u.adds.added.fresh m n = u.adds.takes in
     let more : Takes reached.adds.added.fresh n o = reached.adds.takes in
     let at : j ≡ 0 + j = omega arith in
@@ -76,7 +76,7 @@ underway_more m n o a b c plan level j p pointers s long met s_n low u built rea
           (reaches_sized m n o plan reached.adds.added (one_block level j) (λ x. p) taken.size taken.count reached.reaches);
       builds = λ told free.
           let told_n : IsTrue n.tells = more.told_before told in
-          let known : IsToldPlan m plan = record { consistent = s; long = long; met = met; told = taken.told_before told_n } in
+          let known : IsToldPlan m plan = record { consistent = s; met = met; told = taken.told_before told_n } in
           row_step m n o plan u.adds.added reached.adds.added level 0 j p (slice_index pointers) (slice_index (set pointers j p)) known s_n told
           (λ x from to. let other : x ≢ j = omega arith in get_or-set_other pointers j x p 0 other)
           (subst (λ x. slice_index (set pointers j p) x ≡ p) at (get_or-set_same pointers j p 0 low))
@@ -85,8 +85,8 @@ underway_more m n o a b c plan level j p pointers s long met s_n low u built rea
     }
 
 -- the pointers of the old node are the same
-pub later_pointer : (f : List ℕ) (m n : BlockState) (plan : Plan) (k j : ℕ) → IsConsistent m → length plan.node.pointers ≡ 16 → IsPlan m plan → Takes f m n → IsTrue n.tells → planned_pointer plan n k j ≡ planned_pointer plan m k j
-later_pointer f m n plan k j s long met taken told = pointers_after f m n plan (record { consistent = s; long = long; met = met; told = taken.told_before told }) taken told k j
+pub later_pointer : (f : List ℕ) (m n : BlockState) (plan : Plan) (k j : ℕ) → IsConsistent m → IsPlan m plan → Takes f m n → IsTrue n.tells → planned_pointer plan n k j ≡ planned_pointer plan m k j
+later_pointer f m n plan k j s met taken told = pointers_after f m n plan (record { consistent = s; met = met; told = taken.told_before told }) taken told k j
 
 -- ---- all of it
 

@@ -1,5 +1,5 @@
 -- A change of a node, by the positions that the node has before and after it.
-use Rattle.std.specs.Prelude.{ℕ, Bool, List}
+use Rattle.std.specs.Prelude.{ℕ, ◌≤◌, Bool, List, IsTrue}
 use Rattle.qx_fields.specs.declared.order.Order.{Order}
 use Rattle.qx_geom.specs.declared.root.Root.{Root}
 use Rattle.qx_geom.specs.Positions.{Shape, shape_after}
@@ -36,3 +36,7 @@ alteration_of order m node c = record {
 -- how many fresh blocks it takes
 abbrev pub fresh_count : Alteration → ℕ
 fresh_count a = need_of a.blocksize a.old a.new a.written a.private
+
+-- as many blocks are free as a change of the node takes, where bytes are told
+abbrev pub HasRoomFor : Order → BlockState → Root → Change → Type 0
+HasRoomFor order m node c = IsTrue m.tells → fresh_count (alteration_of order m node c) ≤ m.holdings.free

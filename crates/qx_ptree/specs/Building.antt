@@ -12,7 +12,7 @@ use Rattle.qx_nodes.specs.BlockMap.{BlockMap, with_bytes, word}
 use Rattle.qx_nodes.specs.Content.{leaf_bytes}
 use Rattle.qx_blocks.specs.declared.blocks.Stop.{Stop}
 use Rattle.qx_blocks.specs.BlockState.{BlockState}
-use Rattle.qx_ptree.specs.declared.fresh_blocks.Plan.{Plan}
+use Rattle.qx_ptree.specs.declared.plan.Plan.{Plan}
 use Rattle.qx_ptree.specs.Altered.{keeps_block, takes_fresh}
 use Rattle.qx_ptree.specs.Alterations.{Alteration}
 use Rattle.qx_ptree.specs.Parts.{fresh_below}

@@ -11,6 +11,7 @@ pub mod Altered
 pub mod Building
 pub mod BuiltNode
 pub mod ReadyLeaves
+pub mod PreparedNode
 pub mod Reaching
 pub mod Holes
 pub mod KeptNodes

@@ -1,11 +1,11 @@
 -- A change of a node that is looked at.
-use Rattle.std.specs.Prelude.{ℕ, ◌+◌, ◌*◌, ◌^◌, ◌≤◌, IsTrue}
+use Rattle.std.specs.Prelude.{ℕ, ◌+◌, ◌*◌, ◌^◌, ◌≤◌}
 use Rattle.qx_geom.specs.Pointer.{per_block}
 use Rattle.qx_blocks.specs.BlockState.{BlockState}
-use Rattle.qx_ptree.specs.declared.fresh_blocks.Plan.{Plan}
+use Rattle.qx_ptree.specs.declared.plan.Plan.{Plan}
 use Rattle.qx_ptree.specs.Alterations.{Alteration, alteration_of}
 use Rattle.qx_ptree.specs.Fates.{IsChange}
-use Rattle.qx_ptree.specs.Trees.{HasLevels, IsRegular, IsWorking, block_map, pointer_at}
+use Rattle.qx_ptree.specs.Trees.{IsNode, block_map, pointer_at}
 
 -- what the plan makes of its node
 abbrev pub alteration_in : Plan → BlockState → Alteration
@@ -15,12 +15,10 @@ alteration_in plan m = alteration_of plan.order m plan.node plan.change
 abbrev pub planned_pointer : Plan → BlockState → ℕ → ℕ → ℕ
 planned_pointer plan m k j = pointer_at (block_map plan.order m) plan.node k j
 
--- the node and the change meet the conditions; those that speak of bytes hold where they are told
+-- the node can be changed, and so
 pub record IsPlan (m : BlockState) (plan : Plan) : Type 0 where
-  pub levels : HasLevels m.holdings.size plan.node
+  pub node : IsNode plan.order m plan.node
   pub change : IsChange m.holdings.size plan.change
-  pub works : IsTrue m.tells → IsWorking plan.order m plan.node
-  pub regular : IsTrue m.tells → IsRegular plan.order m plan.node
 
 -- a position's leaves have numbers of at most 54 bits
 pub record InReach (blocksize level index : ℕ) : Type 0 where

@@ -6,21 +6,21 @@ ghost use Rattle.qx_geom.specs.Pointer.{absent, per_block};
 ghost use Rattle.qx_blocks.specs.BlockState.{IsConsistent};
 ghost use Rattle.qx_blocks.specs.Beside.{LeavesBeside};
 ghost use Rattle.qx_blocks.specs.Calls.{Keeps, MakesReady, OnlyReads};
-ghost use Rattle.qx_ptree.specs.Alterations.{alteration_of, fresh_count};
-ghost use Rattle.qx_ptree.specs.Altered.{IsPrepared};
+ghost use Rattle.qx_ptree.specs.Alterations.{HasRoomFor};
 ghost use Rattle.qx_ptree.specs.Building.{BuildsOnto, GivesUp, LiesOnSpine, LiesOutside, LiesUnder, WritesBlock, WritesLeaf, one_block, pointer_bytes};
 ghost use Rattle.qx_ptree.specs.BuiltNode.{BuildsNode};
 ghost use Rattle.qx_ptree.specs.Fates.{IsChange, leaves_after};
 ghost use Rattle.qx_ptree.specs.Parts.{part_of};
 ghost use Rattle.qx_ptree.specs.Plans.{InReach, IsPlan, alteration_in, planned_pointer};
+ghost use Rattle.qx_ptree.specs.PreparedNode.{Prepares};
 ghost use Rattle.qx_ptree.specs.Reaching.{IsMarked, ReachesOnto};
-ghost use Rattle.qx_ptree.specs.ReadyLeaves.{IsReadyApart, IsWrittenBy, OwnAsLeft, StandIn};
 ghost use Rattle.qx_ptree.specs.Takings.{Adds, Takes};
-ghost use Rattle.qx_ptree.specs.Trees.{HasLevels, IsRegular, IsWorking};
-ghost use Rattle.qx_ptree.specs.WorkState.{CanCommit, all_blocks, blocks_of, committed};
+ghost use Rattle.qx_ptree.specs.Trees.{IsNode};
+ghost use Rattle.qx_ptree.specs.WorkState.{all_blocks};
 
 use crate::change::{Change, Fate, leaf_fate};
-use crate::fresh_blocks::{Plan, alike_fate};
+use crate::fresh_blocks::alike_fate;
+use crate::plan::Plan;
 use crate::pointers::{leading, pointers_below, top_pointers};
 use crate::prepared::Prepared;
 use crate::work::Work;
@@ -47,36 +47,16 @@ pub fn prepare<B: Blocks>(
     order: Order,
     change: &Change,
 ) -> Result<Prepared, Stop>
-    requires levels { HasLevels (B.state blocks.old).holdings.size node.now }
+    requires node { IsNode order (B.state blocks.old) node.now }
     requires change { IsChange (B.state blocks.old).holdings.size change.now }
-    requires works { IsTrue (B.state blocks.old).tells → IsWorking order (B.state blocks.old) node.now }
-    requires regular { IsTrue (B.state blocks.old).tells → IsRegular order (B.state blocks.old) node.now }
-    requires room { IsTrue (B.state blocks.old).tells
-        → fresh_count (alteration_of order (B.state blocks.old) node.now change.now) ≤ (B.state blocks.old).holdings.free }
-    ensures node { IfOk result (λ p. p.node ≡ node.now) }
-    ensures change { IfOk result (λ p. p.change ≡ change.now) }
-    ensures size { IfOk result (λ p. p.root.size ≡ change.now.size) }
-    ensures levels { IfOk result (λ p. HasLevels (B.state blocks.old).holdings.size p.root) }
-    ensures takes { IfOk result (λ p. Takes p.work.fresh (B.state blocks.old) (B.state blocks.new)) }
-    ensures ready { IfOk result (λ p. CanCommit (B.state blocks.new) p) }
-
-    // What is written is ready once it is committed, also where bytes aren't told.
-    ensures written { IfOk result (λ p. (m : _) → OwnAsLeft p (B.state blocks.new) m
-        → IsReadyApart order (committed m p) p.root (IsWrittenBy change.now)) }
-    ensures own { IfOk result (λ p. (m : _) → OwnAsLeft p (B.state blocks.new) m
-        → StandIn order (committed m p) p.root (IsWrittenBy change.now) (blocks_of p)) }
-
-    ensures prepared { IfOk result (λ p. IsTrue (B.state blocks.new).tells
-        → IsPrepared order (B.state blocks.old) (B.state blocks.new) p) }
+    requires room { HasRoomFor order (B.state blocks.old) node.now change.now }
+    ensures ok { IfOk result (λ p.
+        Prepares order (B.state blocks.old) (B.state blocks.new) node.now change.now p) }
 
     ensures err { OnErr result (Takes [] (B.state blocks.old) (B.state blocks.new)) }
     ensures others { LeavesBeside (B.beside blocks.old) (B.beside blocks.new) result }
 {
-    let plan = Plan {
-        node: *node,
-        order,
-        change: *change,
-    };
+    let plan = Plan::new(*node, order, *change);
     let mut work = Work::new(alloc);
     match prepare_distinct(alloc, blocks, &plan, &mut work) {
         Ok(root) => Ok(Prepared {
@@ -105,7 +85,6 @@ fn prepare_distinct<B: Blocks>(
     ensures distinct { OnOk result (Distinct (all_blocks work.new)) }
     ensures consistent { IsConsistent (B.state blocks.old) }
     ensures after { OnOk result (IsConsistent (B.state blocks.new)) }
-    ensures long { length plan.now.node.pointers ≡ 16 }
     ensures err { OnErr result (Adds (B.state blocks.old) (B.state blocks.new) work.old work.new) }
     ensures others { LeavesBeside (B.beside blocks.old) (B.beside blocks.new) result }
 {
@@ -129,7 +108,6 @@ fn prepare_tree<B: Blocks>(
         work.old work.new plan.now root) }
     ensures consistent { IsConsistent (B.state blocks.old) }
     ensures after { OnOk result (IsConsistent (B.state blocks.new)) }
-    ensures long { length plan.now.node.pointers ≡ 16 }
     ensures err { OnErr result (Adds (B.state blocks.old) (B.state blocks.new) work.old work.new) }
     ensures others { LeavesBeside (B.beside blocks.old) (B.beside blocks.new) result }
 {
@@ -163,7 +141,6 @@ fn prepare_at<B: Blocks>(
     requires reach { InReach (B.state blocks.old).holdings.size level index }
     requires level { level
         ≤ levels_for (B.state blocks.old).holdings.size (leaves_after (B.state blocks.old).holdings.size plan.now.change) }
-    requires long { length plan.now.node.pointers ≡ 16 }
     requires plan { IsPlan (B.state blocks.old) plan.now }
     requires pointer { IsTrue (B.state blocks.old).tells
         → pointer ≡ planned_pointer plan.now (B.state blocks.old) level index }
@@ -245,7 +222,6 @@ fn prepare_leaf<B: Blocks>(
     pointer: u32,
 ) -> Result<Below, Stop>
     requires reach { InReach (B.state blocks.old).holdings.size 0 index }
-    requires long { length plan.now.node.pointers ≡ 16 }
     requires plan { IsPlan (B.state blocks.old) plan.now }
     requires leads { ¬ (pointer ≡ absent) → IsTrue ((B.state blocks.old).holdings.works pointer) }
     requires pointer { IsTrue (B.state blocks.old).tells
@@ -410,7 +386,6 @@ fn give_up_below<B: Blocks>(
 ) -> Result<(), Stop>
     requires reach { InReach (B.state blocks.old).holdings.size level index }
     requires within { (level ≤ plan.now.node.levels) ⊎ ¬ (index ≡ 0) }
-    requires long { length plan.now.node.pointers ≡ 16 }
     requires plan { IsPlan (B.state blocks.old) plan.now }
     requires pointer { IsTrue (B.state blocks.old).tells
         → pointer ≡ planned_pointer plan.now (B.state blocks.old) level index }
@@ -454,7 +429,6 @@ fn give_up_each<B: Blocks>(
         → InReach (B.state blocks.old).holdings.size level (first + length pointers.now - 1) }
     requires within { (level ≤ plan.now.node.levels) ⊎ ¬ (first ≡ 0) }
     requires consistent { IsConsistent (B.state blocks.old) }
-    requires long { length plan.now.node.pointers ≡ 16 }
     requires plan { IsPlan (B.state blocks.old) plan.now }
     requires pointers { IsTrue (B.state blocks.old).tells → (w : ℕ) → w < length pointers.now
         → slice_index pointers.now w ≡ planned_pointer plan.now (B.state blocks.old) level (first + w) }
@@ -477,7 +451,6 @@ fn give_up_outside<B: Blocks>(
     level: u8,
 ) -> Result<(), Stop>
     requires consistent { IsConsistent (B.state blocks.old) }
-    requires long { length plan.now.node.pointers ≡ 16 }
     requires plan { IsPlan (B.state blocks.old) plan.now }
     ensures gone { GivesUp (B.state blocks.old) (B.state blocks.new) work.old work.new plan.now
         (LiesOutside (per_block (B.state blocks.old).holdings.size) level) result }
@@ -502,7 +475,6 @@ fn give_up_spine<B: Blocks>(
     pointer: u32,
 ) -> Result<(), Stop>
     requires above { (level < above) × (above ≤ plan.now.node.levels) }
-    requires long { length plan.now.node.pointers ≡ 16 }
     requires plan { IsPlan (B.state blocks.old) plan.now }
     requires pointer { IsTrue (B.state blocks.old).tells
         → pointer ≡ planned_pointer plan.now (B.state blocks.old) above 0 }

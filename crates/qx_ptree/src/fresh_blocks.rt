@@ -1,29 +1,22 @@
 //! How many fresh blocks a change takes.
-ghost use Rattle.std.specs.Prelude.{◌≡◌, ℕ, ◌≤◌, ◌<◌, ◌+◌, ◌*◌, ◌^◌, ◌⊎◌, ◌-◌, length, slice_index, IfOk, IfSome, IsTrue};
+ghost use Rattle.std.specs.Prelude.{◌≡◌, ℕ, ◌≤◌, ◌<◌, ◌+◌, ◌*◌, ◌^◌, ◌⊎◌, ◌-◌, IfOk, IfSome, IsTrue};
 ghost use Rattle.qx_geom.specs.Layout.{levels_for};
-ghost use Rattle.qx_geom.specs.Pointer.{absent, per_block};
+ghost use Rattle.qx_geom.specs.Pointer.{per_block};
 ghost use Rattle.qx_blocks.specs.BlockState.{IsConsistent};
 ghost use Rattle.qx_blocks.specs.Calls.{OnlyReads};
 ghost use Rattle.qx_ptree.specs.Alterations.{alteration_of, fresh_count};
 ghost use Rattle.qx_ptree.specs.Fates.{IsChange, fate_of, leaves_after};
 ghost use Rattle.qx_ptree.specs.Parts.{part_of};
 ghost use Rattle.qx_ptree.specs.Plans.{InReach, IsPlan, alteration_in, planned_pointer};
-ghost use Rattle.qx_ptree.specs.Trees.{HasLevels, IsRegular, IsWorking, Leads};
+ghost use Rattle.qx_ptree.specs.Trees.{IsNode};
 
 use crate::change::{Change, Fate, common_fate, leaf_fate};
 use crate::part::{Part, full, leaf_part, own_need};
+use crate::plan::Plan;
 use crate::pointers::{leading, pointers_below, top_pointers};
 use qx_blocks::{Blocks, Stop};
 use qx_fields::Order;
 use qx_geom::{ABSENT, Root, levels};
-
-// A node, and the change that is asked of it.
-#[derive(Clone, Copy, Debug, PartialEq, Eq)]
-pub(crate) struct Plan {
-    pub(crate) node: Root,
-    pub(crate) order: Order,
-    pub(crate) change: Change,
-}
 
 /// How many fresh blocks a change of a node takes. It reads the pointers that are there and that lead to leaves that change, and no leaf.
 pub fn need<B: Blocks>(
@@ -32,10 +25,8 @@ pub fn need<B: Blocks>(
     order: Order,
     change: &Change,
 ) -> Result<u64, Stop>
-    requires levels { HasLevels (B.state blocks.old).holdings.size node.now }
+    requires node { IsNode order (B.state blocks.old) node.now }
     requires change { IsChange (B.state blocks.old).holdings.size change.now }
-    requires works { IsTrue (B.state blocks.old).tells → IsWorking order (B.state blocks.old) node.now }
-    requires regular { IsTrue (B.state blocks.old).tells → IsRegular order (B.state blocks.old) node.now }
     ensures need { IfOk result (λ need. IsTrue (B.state blocks.new).tells
         → need ≡ fresh_count (alteration_of order (B.state blocks.old) node.now change.now)) }
     // So that the needs of several changes can be summed, also where bytes aren't told.
@@ -43,11 +34,7 @@ pub fn need<B: Blocks>(
 
     ensures reads { OnlyReads B.state B.beside blocks.old blocks.new result }
 {
-    let plan = Plan {
-        node: *node,
-        order,
-        change: *change,
-    };
+    let plan = Plan::new(*node, order, *change);
     let size = blocks.size();
     let level = levels(change.size.div_ceil(size as u64), size as u32);
     let pointers = top_pointers(blocks, &plan, level)?;
@@ -69,7 +56,6 @@ fn part_at<B: Blocks>(
 ) -> Result<Part, Stop>
     requires reach { InReach (B.state blocks.old).holdings.size level index }
     requires plan { IsPlan (B.state blocks.old) plan.now }
-    requires long { length plan.now.node.pointers ≡ 16 }
     requires pointer { IsTrue (B.state blocks.old).tells
         → pointer ≡ planned_pointer plan.now (B.state blocks.old) level index }
     ensures part { IfOk result (λ part. IsTrue (B.state blocks.new).tells
@@ -107,7 +93,6 @@ fn part_at<B: Blocks>(
 // The part of a leaf.
 fn part_of_leaf<B: Blocks>(blocks: &B, plan: &Plan, index: u64, pointer: u32) -> Part
     requires plan { IsPlan (B.state blocks.now) plan.now }
-    requires long { length plan.now.node.pointers ≡ 16 }
     requires pointer { IsTrue (B.state blocks.now).tells
         → pointer ≡ planned_pointer plan.now (B.state blocks.now) 0 index }
     ensures part { IsTrue (B.state blocks.now).tells
@@ -134,7 +119,6 @@ fn alike_part<B: Blocks>(
     requires consistent { IsConsistent (B.state blocks.now) }
     requires reach { InReach (B.state blocks.now).holdings.size level index }
     requires plan { IsPlan (B.state blocks.now) plan.now }
-    requires long { length plan.now.node.pointers ≡ 16 }
     requires pointer { IsTrue (B.state blocks.now).tells
         → pointer ≡ planned_pointer plan.now (B.state blocks.now) level index }
     ensures part { IfSome result (λ part. IsTrue (B.state blocks.now).tells

@@ -15,15 +15,13 @@ ghost use Rattle.qx_ptree.specs.Altered.{Alters, AsLeft, IsPrepared, prepared_al
 ghost use Rattle.qx_ptree.specs.KeptNodes.{KeepsNode};
 ghost use Rattle.qx_ptree.specs.ReadyLeaves.{IsReadyApart, IsWrittenBy, OwnAsLeft, StandIn};
 ghost use Rattle.qx_ptree.specs.Takings.{LeavesOthers, Takes};
-ghost use Rattle.qx_ptree.specs.Trees.{AreApart, HasLevels, IsRegular, IsToldNode, IsWorking, block_map, empty_node, pointer_at};
+ghost use Rattle.qx_ptree.specs.Trees.{AreApart, IsNode, IsRegular, IsToldNode, IsWorking, block_map, empty_node, pointer_at};
 ghost use Rattle.qx_ptree.specs.WaitingChanges.{IsClearOf, IsWaiting};
 ghost use Rattle.qx_ptree.specs.WorkState.{CanCommit, Preparation, blocks_of, committed};
 
-/// The node of nothing can be asked and changed, as `IsNode` says it.
+/// The node of nothing can be asked and changed.
 pub fn an_empty_node_is_a_node()
-    ensures levels { (blocksize : ℕ) → HasLevels blocksize empty_node }
-    ensures works { (order : Order) (m : BlockState) → IsWorking order m empty_node }
-    ensures regular { (order : Order) (m : BlockState) → IsBlockSize m.holdings.size → IsRegular order m empty_node }
+    ensures { (order : Order) (m : BlockState) → IsBlockSize m.holdings.size → IsNode order m empty_node }
 {}
 
 /// A node's positions are those at which something is met, each with its block.

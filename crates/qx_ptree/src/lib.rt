@@ -1,7 +1,7 @@
 //! Pointer trees: where a node's leaves stand, and how a node changes without a write into a block of another tree.
 //!
 //! Stands on `qx_blocks` for blocks, on `qx_geom` for positions and on `qx_nodes` for what a node's pointers lead to; files and long names stand on it.
-//! Its contract: `leaf` answers the leaf of `qx_nodes/specs/Leaves.antt`, `need` the count of `specs/Alterations.antt`, and `commit` makes of a node what `Alters` of `specs/Altered.antt` says.
+//! Its contract: `leaf` answers the leaf of `qx_nodes/specs/Leaves.antt`, `need` the count of `specs/Alterations.antt`, `prepare` what `Prepares` of `specs/PreparedNode.antt` says, and `commit` makes of a node what `Alters` of `specs/Altered.antt` says.
 //! It keeps no state: what it knows it reads from the pointers that are there, never leaf by leaf.
 //! It never writes a block that another tree holds (`what_a_commit_makes_of_blocks`, clause `shared`), and a commit never fails.
 #![tactic(auto)]
@@ -13,6 +13,7 @@ mod holes;
 mod laws;
 mod leaf_path;
 mod part;
+mod plan;
 mod pointers;
 mod prepared;
 mod ready_path;

@@ -7,10 +7,10 @@ ghost use Rattle.qx_blocks.specs.Calls.{OnlyReads};
 ghost use Rattle.qx_ptree.specs.Trees.{Leads, block_map};
 ghost use Rattle.qx_ptree.specs.Plans.{IsPlan, planned_pointer};
 
-use crate::fresh_blocks::Plan;
+use crate::plan::Plan;
 use qx_blocks::{Blocks, Stop};
 use qx_fields::{Order, get32s};
-use qx_geom::{ABSENT, Root};
+use qx_geom::ABSENT;
 
 // Where bytes aren't told, a pointer to a block that the tree doesn't hold counts as absent.
 pub(crate) fn leading<B: Blocks>(blocks: &B, pointer: u32) -> u32
@@ -23,14 +23,6 @@ pub(crate) fn leading<B: Blocks>(blocks: &B, pointer: u32) -> u32
     } else {
         ABSENT
     }
-}
-
-// A node's own pointers, of which there are 16.
-pub(crate) fn own_pointers(node: Root) -> [u32; 16]
-    ensures own { result ≡ node.pointers }
-    ensures long { length node.pointers ≡ 16 }
-{
-    node.pointers
 }
 
 // Fills in the pointers of a pointer block from its first on, or absent ones where there is no block.
@@ -79,13 +71,12 @@ pub(crate) fn pointers_below<B: Blocks>(
 
     ensures reads { OnlyReads B.state B.beside blocks.old blocks.new result }
 {
-    let own = own_pointers(plan.node);
     if level != plan.node.levels + 1 || index != 0 {
         return read_pointers(blocks, plan.order, pointer, into);
     }
     // A level more takes the node's own pointers below its first block.
     into.fill(ABSENT);
-    into[0..16].copy_from_slice(&own);
+    into[0..16].copy_from_slice(&plan.node.pointers);
     Ok(())
 }
 
@@ -97,13 +88,12 @@ pub(crate) fn top_pointers<B: Blocks>(
 ) -> Result<[u32; 16], Stop>
     requires consistent { IsConsistent (B.state blocks.old) }
     requires plan { IsPlan (B.state blocks.old) plan.now }
-    ensures long { length plan.now.node.pointers ≡ 16 }
     ensures pointers { IfOk result (λ top. IsTrue (B.state blocks.new).tells → (j : ℕ) → j < 16
         → slice_index top j ≡ planned_pointer plan.now (B.state blocks.old) level j) }
 
     ensures reads { OnlyReads B.state B.beside blocks.old blocks.new result }
 {
-    let mut pointers = own_pointers(plan.node);
+    let mut pointers = plan.node.pointers;
     if plan.node.levels < level {
         return Ok([ABSENT; 16]);
     }

@@ -11,7 +11,7 @@ use Rattle.qx_blocks.specs.BlockState.{BlockState, Holdings}
 use Rattle.qx_cache.specs.CacheState.{CacheState, bytes_over, state_of, with_frozen}
 use Rattle.qx_cache.specs.Calls.{HasSameBlocks}
 use Rattle.qx_ptree.specs.Trees.{HasLevels, IsRegular, IsWorking}
-use Rattle.tree_bench.specs.Nodes.{IsNode}
+use Rattle.qx_ptree.specs.Trees.{IsNode}
 
 -- what a node depends on of the blocks
 record IsAlike (m n : BlockState) : Type 0 where

@@ -1,5 +1,3 @@
-pub mod KeptNodes
-pub mod ChangedNodes
 pub mod ChangedCaches
 pub mod WrittenNodes
 pub mod PermittedChanges

@@ -8,7 +8,7 @@ use Rattle.qx_blocks.specs.declared.blocks.Stop.TheVariants.{Device}
 use Rattle.qx_blocks.specs.BlockState.{BlockState}
 use Rattle.qx_ptree.specs.declared.change.Change.{Change}
 use Rattle.tree_bench.specs.declared.changes.Refusal.TheVariants.{Stopped}
-use Rattle.tree_bench.specs.Nodes.{HasReason}
+use Rattle.tree_bench.specs.Refusals.{HasReason}
 
 -- no fault was counted before that call
 pub stopped : (order : Order) (m : BlockState) (node : Root) (c : Change) (told : Bool) (before mid now : ℕ) (stop : Stop) → mid ≡ before → (stop ≡ Device → Rose mid now)

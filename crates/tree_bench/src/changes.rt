@@ -1,6 +1,5 @@
 //! A change of a node, from the question whether it may be made to the answer.
-ghost use Rattle.std.specs.Prelude.{◌≡◌, ◌+◌, ◌<◌, ◌≤◌, ◌↔◌, ◌&&◌, [], ℕ, true, false, length, nat_le, nat_lt, IfErr, IfOk, IsTrue, OnErr, OnOk};
-ghost use Rattle.qx_geom.specs.Pointer.{ceil_div};
+ghost use Rattle.std.specs.Prelude.{◌≡◌, ◌+◌, ◌<◌, ◌≤◌, ◌↔◌, ◌&&◌, [], ℕ, true, false, nat_le, nat_lt, IfErr, IfOk, IsTrue, OnErr, OnOk};
 ghost use Rattle.qx_geom.specs.Positions.{is_named};
 ghost use Rattle.qx_blocks.specs.BlockState.{IsBlockSize, IsConsistent};
 ghost use Rattle.qx_blocks.specs.Calls.{Keeps};
@@ -8,7 +7,8 @@ ghost use Rattle.qx_ptree.specs.Alterations.{alteration_of, fresh_count};
 ghost use Rattle.qx_ptree.specs.Fates.{IsChange, is_written};
 ghost use Rattle.qx_ptree.specs.ReadyLeaves.{IsReadyApart, IsWrittenBy};
 ghost use Rattle.qx_ptree.specs.Takings.{Takes};
-ghost use Rattle.tree_bench.specs.Nodes.{HasReason, IsNode};
+ghost use Rattle.qx_ptree.specs.Trees.{IsNode};
+ghost use Rattle.tree_bench.specs.Refusals.{HasReason};
 
 use qx_blocks::{Blocks, Stop};
 use qx_fields::Order;
@@ -80,11 +80,8 @@ pub fn checked_need<B: Blocks>(
     ensures node { IsNode order (B.state blocks.new) node.now }
     ensures consistent { OnOk result (IsConsistent (B.state blocks.new)) }
     ensures kept { OnOk result ((B.beside blocks.new).faults ≡ (B.beside blocks.old).faults) }
-    ensures long { length node.now.pointers ≡ 16 }
     ensures aside { (B.beside blocks.new).aside ≡ (B.beside blocks.old).aside }
 {
-    // Only this says how many pointers the node has.
-    let _pointers = pointers_of(*node);
     if !is_permitted(change, blocks.size() as u64) {
         return Err(Refusal::Unfit);
     }
@@ -147,14 +144,6 @@ pub fn try_node<B: Blocks>(
     let p = prepare(alloc, node, blocks, order, change)?;
     abandon(blocks, p);
     Ok(takes)
-}
-
-// A node's own pointers, of which there are 16.
-fn pointers_of(node: Root) -> [u32; 16]
-    ensures own { result ≡ node.pointers }
-    ensures long { length node.pointers ≡ 16 }
-{
-    node.pointers
 }
 
 // Whether a node can be changed so.

@@ -1,7 +1,7 @@
 //! A program that changes nodes, so that the instructions of the calls can be counted.
 //!
 //! Stands on `qx_ptree` for the calls and on `qx_blocks` for blocks in memory; nothing stands on it, and it goes once the commands reach these calls.
-//! Its contract: a change leaves a node as `specs/Nodes.antt` says, whatever the answer, and one that was made tells how many fresh blocks it took.
+//! Its contract: whatever is answered, a node can be asked and changed again, a refusal has a reason of `specs/Refusals.antt`, and a change that was made tells how many fresh blocks it took.
 //! It keeps no state, and all its blocks are in memory.
 //! It prints nothing on the output. Only its tests ask a device.
 #![tactic(auto)]

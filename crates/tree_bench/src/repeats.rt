@@ -1,7 +1,7 @@
 //! One call on a node in memory, as often as it is asked for.
 ghost use Rattle.std.specs.Prelude.{◌≡◌, IfOk, IsTrue, OnOk};
 ghost use Rattle.qx_ptree.specs.Alterations.{alteration_of, fresh_count};
-ghost use Rattle.tree_bench.specs.Nodes.{IsNode};
+ghost use Rattle.qx_ptree.specs.Trees.{IsNode};
 
 use crate::changes::{Refusal, change_node, checked_need, empty_node, try_node};
 use crate::words::{Call, SIZE, Task};

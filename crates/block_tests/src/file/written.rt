@@ -4,7 +4,7 @@ ghost use Rattle.qx_blocks.specs.BlockState.{IsConsistent};
 ghost use Rattle.qx_blocks.specs.Calls.{Keeps};
 ghost use Rattle.qx_ptree.specs.Fates.{IsChange};
 ghost use Rattle.qx_ptree.specs.ReadyLeaves.{IsReadyApart, IsWrittenBy};
-ghost use Rattle.qx_ptree.specs.Trees.{HasLevels, IsRegular, IsWorking};
+ghost use Rattle.qx_ptree.specs.Trees.{HasLevels, IsNode, IsWorking};
 ghost use Rattle.qx_file.specs.FilePlans.{greatest_end};
 
 use qx_blocks::{Blocks, MemBlocks, Stop};
@@ -17,9 +17,7 @@ use std::test::Fail;
 
 // A node of nothing.
 fn empty<B: Blocks>(blocks: &B, order: Order) -> Root
-    ensures levels { HasLevels (B.state blocks.now).holdings.size result }
-    ensures works { IsWorking order (B.state blocks.now) result }
-    ensures regular { IsRegular order (B.state blocks.now) result }
+    ensures { IsNode order (B.state blocks.now) result }
 {
     // A call that only looks says what holds of the blocks at any moment.
     let _size = blocks.size();
@@ -38,19 +36,13 @@ fn make<B: Blocks>(
     order: Order,
     change: &Change,
 ) -> Result<(), Stop>
-    requires levels { HasLevels (B.state blocks.old).holdings.size node.old }
+    requires node { IsNode order (B.state blocks.old) node.old }
     requires change { IsChange (B.state blocks.old).holdings.size change.now }
-    requires works { IsTrue (B.state blocks.old).tells → IsWorking order (B.state blocks.old) node.old }
-    requires regular { IsTrue (B.state blocks.old).tells → IsRegular order (B.state blocks.old) node.old }
     ensures blocksize { OnOk result
         ((B.state blocks.new).holdings.size ≡ (B.state blocks.old).holdings.size) }
     ensures consistent { OnOk result (IsConsistent (B.state blocks.new)) }
     ensures size { OnOk result (node.new.size ≡ change.now.size) }
-    ensures levels { OnOk result (HasLevels (B.state blocks.new).holdings.size node.new) }
-    ensures works { OnOk result (IsTrue (B.state blocks.new).tells
-        → IsWorking order (B.state blocks.new) node.new) }
-    ensures regular { OnOk result (IsTrue (B.state blocks.new).tells
-        → IsRegular order (B.state blocks.new) node.new) }
+    ensures node { OnOk result (IsNode order (B.state blocks.new) node.new) }
     ensures written { OnOk result
         (IsReadyApart order (B.state blocks.new) node.new (IsWrittenBy change.now)) }
 {
@@ -74,16 +66,10 @@ fn write<B: Blocks>(
     at: u64,
     bytes: &[u8],
 ) -> Result<(), Stop>
-    requires levels { HasLevels (B.state blocks.old).holdings.size node.old }
+    requires node { IsNode order (B.state blocks.old) node.old }
     requires some { 0 < length bytes.now }
     requires end { at + length bytes.now ≤ greatest_end }
-    requires works { IsTrue (B.state blocks.old).tells → IsWorking order (B.state blocks.old) node.old }
-    requires regular { IsTrue (B.state blocks.old).tells → IsRegular order (B.state blocks.old) node.old }
-    ensures levels { OnOk result (HasLevels (B.state blocks.new).holdings.size node.new) }
-    ensures works { OnOk result (IsTrue (B.state blocks.new).tells
-        → IsWorking order (B.state blocks.new) node.new) }
-    ensures regular { OnOk result (IsTrue (B.state blocks.new).tells
-        → IsRegular order (B.state blocks.new) node.new) }
+    ensures { OnOk result (IsNode order (B.state blocks.new) node.new) }
 {
     let blocksize = blocks.size() as u32;
     let Ok(change) = plan_write(node, at, bytes.len() as u64, blocksize) else {
@@ -115,15 +101,9 @@ fn resize<B: Blocks>(
     order: Order,
     size: u64,
 ) -> Result<(), Stop>
-    requires levels { HasLevels (B.state blocks.old).holdings.size node.old }
+    requires node { IsNode order (B.state blocks.old) node.old }
     requires end { size ≤ greatest_end }
-    requires works { IsTrue (B.state blocks.old).tells → IsWorking order (B.state blocks.old) node.old }
-    requires regular { IsTrue (B.state blocks.old).tells → IsRegular order (B.state blocks.old) node.old }
-    ensures levels { OnOk result (HasLevels (B.state blocks.new).holdings.size node.new) }
-    ensures works { OnOk result (IsTrue (B.state blocks.new).tells
-        → IsWorking order (B.state blocks.new) node.new) }
-    ensures regular { OnOk result (IsTrue (B.state blocks.new).tells
-        → IsRegular order (B.state blocks.new) node.new) }
+    ensures { OnOk result (IsNode order (B.state blocks.new) node.new) }
 {
     let block = blocks.size() as u64;
     let present = is_present(node, blocks, order, size)?;

@@ -1,7 +1,7 @@
 //! Nodes that are made step by step, and what is asked of them.
 ghost use Rattle.std.specs.Prelude.{◌≡◌, ◌≤◌, ◌*◌, ◌^◌, IfOk, IsTrue};
 ghost use Rattle.qx_blocks.specs.Calls.{Keeps};
-ghost use Rattle.tree_bench.specs.Nodes.{IsNode};
+ghost use Rattle.qx_ptree.specs.Trees.{IsNode};
 
 use crate::changes::{Refusal, change_node};
 use crate::repeats::call_once;

@@ -2,7 +2,7 @@
 ghost use Rattle.std.specs.Prelude.{◌≡◌, ◌≤◌, false, IfOk, vec_len};
 ghost use Rattle.qx_blocks.specs.Calls.{Keeps};
 ghost use Rattle.qx_cache.specs.CacheState.{state_of};
-ghost use Rattle.tree_bench.specs.Nodes.{IsNode};
+ghost use Rattle.qx_ptree.specs.Trees.{IsNode};
 
 use super::rows::{Row, Wrong, first_wrong, made, range, range_also};
 use crate::changes::{Refusal, change_node, empty_node};

@@ -1,6 +1,6 @@
 //! Changes of one node after another, over blocks in memory, beside what the definitions say of them.
 ghost use Rattle.std.specs.Prelude.{◌≡◌};
-ghost use Rattle.tree_bench.specs.Nodes.{IsNode};
+ghost use Rattle.qx_ptree.specs.Trees.{IsNode};
 
 use crate::changes::{Refusal, change_node, empty_node};
 use qx_blocks::{Blocks, MemBlocks};

@@ -13,7 +13,8 @@ use Rattle.qx_ptree.specs.Reaching.{IsMarked, ReachesOnto}
 use Rattle.qx_ptree.specs.Takings.{Takes}
 use Rattle.qx_ptree.proofs.AddedWork.{adds_none, adds_then}
 use Rattle.qx_ptree.proofs.AlikeParts.{AllFare}
-use Rattle.qx_ptree.proofs.CarriedPlans.{plan_after, pointers_after}
+use Rattle.qx_ptree.proofs.CarriedPlans.{pointers_after}
+use Rattle.qx_ptree.proofs.KeptNodes.{plan_after}
 use Rattle.qx_ptree.proofs.KeptPlans.{told_before}
 use Rattle.qx_ptree.proofs.PartBounds.{child-fits, child-reach}
 use Rattle.qx_ptree.proofs.PlannedPointers.{planned_lead}
@@ -33,26 +34,26 @@ pub returns-in-Some-Stays-clause-built : goal.returns-in-Some-Stays-clause-built
 returns-in-Some-Stays-clause-built g t c =
     let m : BlockState = g.B.Blocks.state c.args.blocks.now in
     let all : AllFare m.holdings.size c.args.plan.now.change Stays c.args.level c.args.index = λ i from to. c.in-Some-Stays.ensures.fate i from to ∙ c.in-Some-Stays.field-0-is in
-    quiet_onto m c.args.plan.now c.args.level c.args.index c.leading-pointer.result c.args.work.now c.leading-pointer.ensures.consistent c.requires.long c.requires.plan c.requires.level c.in-Some-Stays.ensures.level
-    (λ told. planned_lead m c.args.plan.now c.args.level c.args.index c.args.pointer c.leading-pointer.result (record { consistent = c.leading-pointer.ensures.consistent; long = c.requires.long; met = c.requires.plan; told = told }) (c.requires.pointer told) c.leading-pointer.ensures.same) all
+    quiet_onto m c.args.plan.now c.args.level c.args.index c.leading-pointer.result c.args.work.now c.leading-pointer.ensures.consistent c.requires.plan c.requires.level c.in-Some-Stays.ensures.level
+    (λ told. planned_lead m c.args.plan.now c.args.level c.args.index c.args.pointer c.leading-pointer.result (record { consistent = c.leading-pointer.ensures.consistent; met = c.requires.plan; told = told }) (c.requires.pointer told) c.leading-pointer.ensures.same) all
 
 pub returns-in-Some-Stays-clause-changed : goal.returns-in-Some-Stays-clause-changed
 returns-in-Some-Stays-clause-changed g t c told =
     let m : BlockState = g.B.Blocks.state c.args.blocks.now in
     let all : AllFare m.holdings.size c.args.plan.now.change Stays c.args.level c.args.index = λ i from to. c.in-Some-Stays.ensures.fate i from to ∙ c.in-Some-Stays.field-0-is in
-    sym (ap (λ (x : Part). x.changed) (fare_part m c.args.plan.now Stays c.args.level c.args.index c.leading-pointer.result c.leading-pointer.ensures.consistent c.requires.long c.requires.plan (λ e. absurd (cc)) c.requires.level c.in-Some-Stays.ensures.level
-    (λ told. planned_lead m c.args.plan.now c.args.level c.args.index c.args.pointer c.leading-pointer.result (record { consistent = c.leading-pointer.ensures.consistent; long = c.requires.long; met = c.requires.plan; told = told }) (c.requires.pointer told) c.leading-pointer.ensures.same) all told))
+    sym (ap (λ (x : Part). x.changed) (fare_part m c.args.plan.now Stays c.args.level c.args.index c.leading-pointer.result c.leading-pointer.ensures.consistent c.requires.plan (λ e. absurd (cc)) c.requires.level c.in-Some-Stays.ensures.level
+    (λ told. planned_lead m c.args.plan.now c.args.level c.args.index c.args.pointer c.leading-pointer.result (record { consistent = c.leading-pointer.ensures.consistent; met = c.requires.plan; told = told }) (c.requires.pointer told) c.leading-pointer.ensures.same) all told))
 
 pub returns-in-Some-Stays-clause-present : goal.returns-in-Some-Stays-clause-present
 returns-in-Some-Stays-clause-present g t c told =
     let m : BlockState = g.B.Blocks.state c.args.blocks.now in
     let all : AllFare m.holdings.size c.args.plan.now.change Stays c.args.level c.args.index = λ i from to. c.in-Some-Stays.ensures.fate i from to ∙ c.in-Some-Stays.field-0-is in
-    sym (ap (λ (x : Part). x.present) (fare_part m c.args.plan.now Stays c.args.level c.args.index c.leading-pointer.result c.leading-pointer.ensures.consistent c.requires.long c.requires.plan (λ e. absurd (cc)) c.requires.level c.in-Some-Stays.ensures.level
-    (λ told. planned_lead m c.args.plan.now c.args.level c.args.index c.args.pointer c.leading-pointer.result (record { consistent = c.leading-pointer.ensures.consistent; long = c.requires.long; met = c.requires.plan; told = told }) (c.requires.pointer told) c.leading-pointer.ensures.same) all told))
+    sym (ap (λ (x : Part). x.present) (fare_part m c.args.plan.now Stays c.args.level c.args.index c.leading-pointer.result c.leading-pointer.ensures.consistent c.requires.plan (λ e. absurd (cc)) c.requires.level c.in-Some-Stays.ensures.level
+    (λ told. planned_lead m c.args.plan.now c.args.level c.args.index c.args.pointer c.leading-pointer.result (record { consistent = c.leading-pointer.ensures.consistent; met = c.requires.plan; told = told }) (c.requires.pointer told) c.leading-pointer.ensures.same) all told))
 
 pub give_up_below-requires-clause-pointer : goal.give_up_below-requires-clause-pointer
 give_up_below-requires-clause-pointer g t c told =
-    planned_lead (g.B.Blocks.state c.args.blocks.now) c.args.plan.now c.args.level c.args.index c.args.pointer c.leading-pointer.result (record { consistent = c.leading-pointer.ensures.consistent; long = c.requires.long; met = c.requires.plan; told = told }) (c.requires.pointer told) c.leading-pointer.ensures.same
+    planned_lead (g.B.Blocks.state c.args.blocks.now) c.args.plan.now c.args.level c.args.index c.args.pointer c.leading-pointer.result (record { consistent = c.leading-pointer.ensures.consistent; met = c.requires.plan; told = told }) (c.requires.pointer told) c.leading-pointer.ensures.same
 
 pub returns-in_err-give_up_below-in-Some-Goes-clause-err : goal.returns-in_err-give_up_below-in-Some-Goes-clause-err
 returns-in_err-give_up_below-in-Some-Goes-clause-err g t c =
@@ -62,23 +63,23 @@ pub returns-in-Some-Goes-clause-built : goal.returns-in-Some-Goes-clause-built
 returns-in-Some-Goes-clause-built g t c =
     let m : BlockState = g.B.Blocks.state c.args.blocks.now in
     let all : AllFare m.holdings.size c.args.plan.now.change Goes c.args.level c.args.index = λ i from to. c.in-Some-Goes.ensures.fate i from to ∙ c.in-Some-Goes.field-0-is in
-    gone_onto m (g.B.Blocks.state c.give_up_below.new.blocks) c.args.plan.now c.args.level c.args.index c.args.work.now c.give_up_below.new.work c.leading-pointer.ensures.consistent c.requires.long c.requires.plan c.requires.level c.in-Some-Goes.ensures.level all
+    gone_onto m (g.B.Blocks.state c.give_up_below.new.blocks) c.args.plan.now c.args.level c.args.index c.args.work.now c.give_up_below.new.work c.leading-pointer.ensures.consistent c.requires.plan c.requires.level c.in-Some-Goes.ensures.level all
     c.give_up_below.ensures.reads.keeps c.in_ok-give_up_below-in-Some-Goes.ensures.gone
 
 pub returns-in-Some-Goes-clause-changed : goal.returns-in-Some-Goes-clause-changed
 returns-in-Some-Goes-clause-changed g t c told =
     let m : BlockState = g.B.Blocks.state c.args.blocks.now in
     let all : AllFare m.holdings.size c.args.plan.now.change Goes c.args.level c.args.index = λ i from to. c.in-Some-Goes.ensures.fate i from to ∙ c.in-Some-Goes.field-0-is in
-    sym (ap (λ (x : Part). x.changed) (fare_part m c.args.plan.now Goes c.args.level c.args.index c.leading-pointer.result c.leading-pointer.ensures.consistent c.requires.long c.requires.plan (λ e. absurd (cc)) c.requires.level c.in-Some-Goes.ensures.level
-    (λ told. planned_lead m c.args.plan.now c.args.level c.args.index c.args.pointer c.leading-pointer.result (record { consistent = c.leading-pointer.ensures.consistent; long = c.requires.long; met = c.requires.plan; told = told }) (c.requires.pointer told) c.leading-pointer.ensures.same) all
+    sym (ap (λ (x : Part). x.changed) (fare_part m c.args.plan.now Goes c.args.level c.args.index c.leading-pointer.result c.leading-pointer.ensures.consistent c.requires.plan (λ e. absurd (cc)) c.requires.level c.in-Some-Goes.ensures.level
+    (λ told. planned_lead m c.args.plan.now c.args.level c.args.index c.args.pointer c.leading-pointer.result (record { consistent = c.leading-pointer.ensures.consistent; met = c.requires.plan; told = told }) (c.requires.pointer told) c.leading-pointer.ensures.same) all
     (told_before m (g.B.Blocks.state c.give_up_below.new.blocks) c.give_up_below.ensures.reads.keeps told)))
 
 pub returns-in-Some-Goes-clause-present : goal.returns-in-Some-Goes-clause-present
 returns-in-Some-Goes-clause-present g t c told =
     let m : BlockState = g.B.Blocks.state c.args.blocks.now in
     let all : AllFare m.holdings.size c.args.plan.now.change Goes c.args.level c.args.index = λ i from to. c.in-Some-Goes.ensures.fate i from to ∙ c.in-Some-Goes.field-0-is in
-    sym (ap (λ (x : Part). x.present) (fare_part m c.args.plan.now Goes c.args.level c.args.index c.leading-pointer.result c.leading-pointer.ensures.consistent c.requires.long c.requires.plan (λ e. absurd (cc)) c.requires.level c.in-Some-Goes.ensures.level
-    (λ told. planned_lead m c.args.plan.now c.args.level c.args.index c.args.pointer c.leading-pointer.result (record { consistent = c.leading-pointer.ensures.consistent; long = c.requires.long; met = c.requires.plan; told = told }) (c.requires.pointer told) c.leading-pointer.ensures.same) all
+    sym (ap (λ (x : Part). x.present) (fare_part m c.args.plan.now Goes c.args.level c.args.index c.leading-pointer.result c.leading-pointer.ensures.consistent c.requires.plan (λ e. absurd (cc)) c.requires.level c.in-Some-Goes.ensures.level
+    (λ told. planned_lead m c.args.plan.now c.args.level c.args.index c.args.pointer c.leading-pointer.result (record { consistent = c.leading-pointer.ensures.consistent; met = c.requires.plan; told = told }) (c.requires.pointer told) c.leading-pointer.ensures.same) all
     (told_before m (g.B.Blocks.state c.give_up_below.new.blocks) c.give_up_below.ensures.reads.keeps told)))
 
 -- no written leaf stands there that would have to be reached
@@ -117,12 +118,12 @@ returns-in-Some-Goes-clause-marked g t c =
 pub prepare_leaf-requires-clause-pointer : goal.prepare_leaf-requires-clause-pointer
 prepare_leaf-requires-clause-pointer g t c told =
     let m : BlockState = g.B.Blocks.state c.args.blocks.now in
-    planned_lead m c.args.plan.now c.args.level c.args.index c.args.pointer c.leading-pointer.result (record { consistent = c.leading-pointer.ensures.consistent; long = c.requires.long; met = c.requires.plan; told = told }) (c.requires.pointer told) c.leading-pointer.ensures.same
+    planned_lead m c.args.plan.now c.args.level c.args.index c.args.pointer c.leading-pointer.result (record { consistent = c.leading-pointer.ensures.consistent; met = c.requires.plan; told = told }) (c.requires.pointer told) c.leading-pointer.ensures.same
     ∙ ap (λ k. planned_pointer c.args.plan.now m k c.args.index) c.if-level-eq0.true
 
 pub pointers_below-requires-clause-pointer : goal.pointers_below-requires-clause-pointer
 pointers_below-requires-clause-pointer g t c told =
-    planned_lead (g.B.Blocks.state c.args.blocks.now) c.args.plan.now c.args.level c.args.index c.args.pointer c.leading-pointer.result (record { consistent = c.leading-pointer.ensures.consistent; long = c.requires.long; met = c.requires.plan; told = told }) (c.requires.pointer told) c.leading-pointer.ensures.same
+    planned_lead (g.B.Blocks.state c.args.blocks.now) c.args.plan.now c.args.level c.args.index c.args.pointer c.leading-pointer.result (record { consistent = c.leading-pointer.ensures.consistent; met = c.requires.plan; told = told }) (c.requires.pointer told) c.leading-pointer.ensures.same
 
 pub returns-in_err-pointers_below-clause-err : goal.returns-in_err-pointers_below-clause-err
 returns-in_err-pointers_below-clause-err g t c =
@@ -175,14 +176,11 @@ prepare_at-requires g t c κs within =
           (
             subst (λ s. c.args.level - 1 ≤ levels_for s (leaves_after s c.args.plan.now.change)) (sym takes.size) (omega (arith, c.requires.level)),
             (
-              c.requires.long,
-              (
-                plan_after f m n c.args.plan.now c.leading-pointer.ensures.consistent c.requires.long c.requires.plan takes,
-                λ told. of_part (λ xs. slice_index xs c.loop-w.w ≡ planned_pointer c.args.plan.now n (c.args.level - 1) (c.args.index * (c.size-words.result / 4) + c.loop-w.w)) (c.size-words.result / 4) c.pointers_below.new.into _ long
-                    (c.in_ok-pointers_below.ensures.pointers (c.loop-w.invariant.told told) c.loop-w.w (search rules)
-                    ∙ ap (λ k. planned_pointer c.args.plan.now m (c.args.level - 1) (c.args.index * k + c.loop-w.w)) (sym words)
-                    ∙ sym (pointers_after f m n c.args.plan.now (record { consistent = c.leading-pointer.ensures.consistent; long = c.requires.long; met = c.requires.plan; told = takes.told_before told }) takes told (c.args.level - 1) (c.args.index * (c.size-words.result / 4) + c.loop-w.w))),
-              ),
+              plan_after f m n c.args.plan.now c.leading-pointer.ensures.consistent c.requires.plan takes,
+              λ told. of_part (λ xs. slice_index xs c.loop-w.w ≡ planned_pointer c.args.plan.now n (c.args.level - 1) (c.args.index * (c.size-words.result / 4) + c.loop-w.w)) (c.size-words.result / 4) c.pointers_below.new.into _ long
+                  (c.in_ok-pointers_below.ensures.pointers (c.loop-w.invariant.told told) c.loop-w.w (search rules)
+                  ∙ ap (λ k. planned_pointer c.args.plan.now m (c.args.level - 1) (c.args.index * k + c.loop-w.w)) (sym words)
+                  ∙ sym (pointers_after f m n c.args.plan.now (record { consistent = c.leading-pointer.ensures.consistent; met = c.requires.plan; told = takes.told_before told }) takes told (c.args.level - 1) (c.args.index * (c.size-words.result / 4) + c.loop-w.w))),
             ),
           ),
         ),
@@ -207,7 +205,7 @@ loop-w-preserved g t c =
     let child : BuildsOnto n o c.loop-w.work c.prepare_at.new.work c.args.plan.now (one_block (c.args.level - 1) (c.args.index * P + c.loop-w.w)) (λ _. c.in_ok-below.below.pointer) =
     subst (λ k. BuildsOnto n o c.loop-w.work c.prepare_at.new.work c.args.plan.now (one_block (c.args.level - 1) (c.args.index * k + c.loop-w.w)) (λ _. c.in_ok-below.below.pointer)) words c.in_ok-below.ensures.built in
     let later : IsTrue o.tells → part_of (alteration_in c.args.plan.now n) (c.args.level - 1) (c.args.index * (c.size-words.result / 4) + c.loop-w.w) ≡ part_of (alteration_in c.args.plan.now m) (c.args.level - 1) (c.args.index * P + c.loop-w.w) = λ told.
-    part_later c.loop-w.invariant.built.adds.added.fresh m n c.args.plan.now (c.args.level - 1) (c.args.index * (c.size-words.result / 4) + c.loop-w.w) c.leading-pointer.ensures.consistent c.prepare_at.ensures.consistent c.requires.long c.requires.plan c.loop-w.invariant.built.adds.takes (child.adds.takes.told_before told)
+    part_later c.loop-w.invariant.built.adds.added.fresh m n c.args.plan.now (c.args.level - 1) (c.args.index * (c.size-words.result / 4) + c.loop-w.w) c.leading-pointer.ensures.consistent c.prepare_at.ensures.consistent c.requires.plan c.loop-w.invariant.built.adds.takes (child.adds.takes.told_before told)
     ∙ ap (λ k. part_of (alteration_in c.args.plan.now m) (c.args.level - 1) (c.args.index * k + c.loop-w.w)) words in
     let changed : c.if-changed.changed ≡ (c.loop-w.changed || c.in_ok-below.below.changed) = elim c.if-changed.branch [ then-changed w ↦ or_then c.loop-w.changed c.in_ok-below.below.changed c.if-changed.changed w.if-changed.true w.changed-is | else-changed w ↦ or_else c.loop-w.changed c.in_ok-below.below.changed c.if-changed.changed w.if-changed.false w.changed-is ] in
     let present : c.if-present.present ≡ (c.loop-w.present || c.in_ok-below.below.present) = elim c.if-present.branch [ then-present w ↦ or_then c.loop-w.present c.in_ok-below.below.present c.if-present.present w.if-present.true w.present-is | else-present w ↦ or_else c.loop-w.present c.in_ok-below.below.present c.if-present.present w.if-present.false w.present-is ] in
@@ -222,7 +220,7 @@ loop-w-preserved g t c =
           (marked_sized m n c.args.plan.now (one_block (c.args.level - 1) (c.args.index * P + c.loop-w.w)) c.in_ok-below.below.changed c.in_ok-below.below.present c.loop-w.invariant.reaches.adds.takes.size
           (subst (λ k. IsMarked n c.args.plan.now (one_block (c.args.level - 1) (c.args.index * k + c.loop-w.w)) c.in_ok-below.below.changed c.in_ok-below.below.present) words c.in_ok-below.ensures.marked))));
       built = row_onto_more m n o c.args.work.now c.loop-w.work c.prepare_at.new.work c.args.plan.now (c.args.level - 1) (c.args.index * P) c.loop-w.w c.in_ok-below.below.pointer
-          (λ j. slice_index c.loop-w.new (j - c.args.index * P)) (λ j. slice_index (set c.loop-w.new c.loop-w.w c.in_ok-below.below.pointer) (j - c.args.index * P)) c.leading-pointer.ensures.consistent c.prepare_at.ensures.consistent c.requires.long c.requires.plan
+          (λ j. slice_index c.loop-w.new (j - c.args.index * P)) (λ j. slice_index (set c.loop-w.new c.loop-w.w c.in_ok-below.below.pointer) (j - c.args.index * P)) c.leading-pointer.ensures.consistent c.prepare_at.ensures.consistent c.requires.plan
           (tops_before c.loop-w.new c.loop-w.w c.in_ok-below.below.pointer (c.args.index * P)) (tops_last c.loop-w.new c.loop-w.w c.in_ok-below.below.pointer (c.args.index * P) (omega (arith, all, low, wide))) c.loop-w.invariant.built child;
       changed = λ told. any_more (λ v. (part_of (alteration_in c.args.plan.now m) (c.args.level - 1) (c.args.index * P + v)).changed) c.loop-w.w c.loop-w.changed c.in_ok-below.below.changed c.if-changed.changed
           (c.loop-w.invariant.changed (child.adds.takes.told_before told)) (c.in_ok-below.ensures.changed told ∙ ap (λ (x : Part). x.changed) (later told)) changed;
@@ -251,8 +249,8 @@ returns-clause-built g t c =
     let row : BuildsOnto m n c.args.work.now c.loop-w.work c.args.plan.now (record { level = c.args.level - 1; first = c.args.index * P; count = P }) tops =
     subst (λ k. BuildsOnto m n c.args.work.now c.loop-w.work c.args.plan.now (record { level = c.args.level - 1; first = c.args.index * P; count = k }) tops) (end ∙ words) c.loop-w.invariant.built in
     block_onto m n (g.B.Blocks.state c.prepare_block.new.blocks) c.args.work.now c.loop-w.work c.prepare_block.new.work c.args.plan.now c.args.level c.args.index c.leading-pointer.result c.in_ok-pointer.pointer tops (take (c.size-words.result / 4 - 0) c.loop-w.new) c.loop-w.changed c.loop-w.present
-    c.leading-pointer.ensures.consistent c.requires.long c.requires.plan c.if-level-eq0.false c.requires.level
-    (λ told. planned_lead m c.args.plan.now c.args.level c.args.index c.args.pointer c.leading-pointer.result (record { consistent = c.leading-pointer.ensures.consistent; long = c.requires.long; met = c.requires.plan; told = told }) (c.requires.pointer told) c.leading-pointer.ensures.same)
+    c.leading-pointer.ensures.consistent c.requires.plan c.if-level-eq0.false c.requires.level
+    (λ told. planned_lead m c.args.plan.now c.args.level c.args.index c.args.pointer c.leading-pointer.result (record { consistent = c.leading-pointer.ensures.consistent; met = c.requires.plan; told = told }) (c.requires.pointer told) c.leading-pointer.ensures.same)
     (lent_length c.loop-w.new (c.size-words.result / 4) (omega (arith, all, wide)) ∙ words) (λ v low. c.prepare_block.ensures.fit v)
     (λ v low. tops_lent c.loop-w.new (c.size-words.result / 4) (c.args.index * P) v (omega (arith, low, words)))
     (λ told. sym (c.loop-w.invariant.changed told ∙ ap (λ k. any_up_to k (λ v. (part_of (alteration_in c.args.plan.now m) (c.args.level - 1) (c.args.index * P + v)).changed)) (end ∙ words) ∙ changed_all m c.args.plan.now c.args.level c.args.index c.leading-pointer.ensures.consistent c.if-level-eq0.false))

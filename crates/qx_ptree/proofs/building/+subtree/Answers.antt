@@ -15,17 +15,17 @@ use Rattle.qx_ptree.proofs.building.+subtree.Goals as goal
 pub give_up_below-returns-then-pointer-clause-gone : goal.give_up_below-returns-then-pointer-clause-gone
 give_up_below-returns-then-pointer-clause-gone g t c =
     gives_none (g.B.Blocks.state c.args.blocks.now) c.args.plan.now c.args.level c.args.index c.args.pointer c.leading-pointer.result c.args.work.now
-    c.leading-pointer.ensures.consistent c.requires.long c.requires.plan c.requires.within c.requires.pointer c.leading-pointer.ensures.same c.if-pointer.true
+    c.leading-pointer.ensures.consistent c.requires.plan c.requires.within c.requires.pointer c.leading-pointer.ensures.same c.if-pointer.true
 
 pub give_up_below-returns-then-level-eq0-clause-gone : goal.give_up_below-returns-then-level-eq0-clause-gone
 give_up_below-returns-then-level-eq0-clause-gone g t c =
     gives_leaf (g.B.Blocks.state c.args.blocks.now) c.args.plan.now c.args.level c.args.index c.args.pointer c.leading-pointer.result c.args.work.now c.give_up.new.self
-    c.leading-pointer.ensures.consistent c.requires.long c.requires.plan c.requires.pointer c.leading-pointer.ensures.same c.if-pointer.false c.if-level-eq0.true c.in_ok-give_up.ensures.noted
+    c.leading-pointer.ensures.consistent c.requires.plan c.requires.pointer c.leading-pointer.ensures.same c.if-pointer.false c.if-level-eq0.true c.in_ok-give_up.ensures.noted
 
 pub give_up_below-pointers_below-requires-clause-pointer : goal.give_up_below-pointers_below-requires-clause-pointer
 give_up_below-pointers_below-requires-clause-pointer g t c told =
     planned_lead (g.B.Blocks.state c.args.blocks.now) c.args.plan.now c.args.level c.args.index c.args.pointer c.leading-pointer.result
-    (record { consistent = c.leading-pointer.ensures.consistent; long = c.requires.long; met = c.requires.plan; told = told }) (c.requires.pointer told) c.leading-pointer.ensures.same
+    (record { consistent = c.leading-pointer.ensures.consistent; met = c.requires.plan; told = told }) (c.requires.pointer told) c.leading-pointer.ensures.same
 
 -- what one more index makes of a bound
 index_fits : (b level index words : ℕ) → IsBlockSize b → level ≢ 0 → InReach b level index → words ≡ per_block b → index * words < 2 ^ 64
@@ -63,15 +63,12 @@ give_up_below-give_up_each-requires g t c κs within =
             (
               kept_consistent m n keeps c.size-words.ensures.consistent,
               (
-                c.requires.long,
-                (
-                  kept_plan m n c.args.plan.now keeps c.requires.plan,
-                  λ told. of_part (λ xs. (w : ℕ) → w < length xs → slice_index xs w ≡ planned_pointer c.args.plan.now n (c.args.level - 1) (c.args.index * (c.size-words.result / 4) + w)) (c.size-words.result / 4) c.pointers_below.new.into _ long
-                      (λ w low.
-                      c.in_ok-pointers_below.ensures.pointers told w (search rules)
-                      ∙ ap (λ k. planned_pointer c.args.plan.now m (c.args.level - 1) (c.args.index * k + w)) (sym words)
-                      ∙ sym (kept_pointer m n c.args.plan.now (c.args.level - 1) (c.args.index * (c.size-words.result / 4) + w) keeps told)),
-                ),
+                kept_plan m n c.args.plan.now keeps c.requires.plan,
+                λ told. of_part (λ xs. (w : ℕ) → w < length xs → slice_index xs w ≡ planned_pointer c.args.plan.now n (c.args.level - 1) (c.args.index * (c.size-words.result / 4) + w)) (c.size-words.result / 4) c.pointers_below.new.into _ long
+                    (λ w low.
+                    c.in_ok-pointers_below.ensures.pointers told w (search rules)
+                    ∙ ap (λ k. planned_pointer c.args.plan.now m (c.args.level - 1) (c.args.index * k + w)) (sym words)
+                    ∙ sym (kept_pointer m n c.args.plan.now (c.args.level - 1) (c.args.index * (c.size-words.result / 4) + w) keeps told)),
               ),
             ),
           ),
@@ -83,7 +80,7 @@ pub give_up_below-returns-clause-gone : goal.give_up_below-returns-clause-gone
 give_up_below-returns-clause-gone g t c =
     let long : length c.pointers_below.new.into ≡ c.size-words.result / 4 = search rules in
     gives_block (g.B.Blocks.state c.args.blocks.now) (g.B.Blocks.state c.pointers_below.new.blocks) (g.B.Blocks.state c.give_up_each.new.blocks) c.args.plan.now c.args.level c.args.index c.args.pointer c.leading-pointer.result (c.size-words.result / 4)
-    c.args.work.now c.give_up.new.self c.give_up_each.new.work c.give_up_each.result c.leading-pointer.ensures.consistent c.requires.long c.requires.plan c.requires.pointer c.leading-pointer.ensures.same c.if-pointer.false
+    c.args.work.now c.give_up.new.self c.give_up_each.new.work c.give_up_each.result c.leading-pointer.ensures.consistent c.requires.plan c.requires.pointer c.leading-pointer.ensures.same c.if-pointer.false
     c.if-level-eq0.false (ap (λ n. n / 4) c.size-words.ensures.size) c.pointers_below.ensures.reads.keeps c.give_up_each.ensures.reads.keeps c.in_ok-give_up.ensures.noted
     (subst (λ k. GivesUp (g.B.Blocks.state c.pointers_below.new.blocks) (g.B.Blocks.state c.give_up_each.new.blocks) c.give_up.new.self c.give_up_each.new.work c.args.plan.now
     (LiesUnder (per_block (g.B.Blocks.state c.pointers_below.new.blocks).holdings.size) (record { level = c.args.level - 1; first = c.args.index * (c.size-words.result / 4); count = k })) c.give_up_each.result) long
@@ -119,11 +116,8 @@ give_up_each-give_up_below-requires g t c κs within =
           (
             elim c.requires.within [ inl low ↦ inl low | inr other ↦ inr (λ e. other (omega arith)) ],
             (
-              c.requires.long,
-              (
-                kept_plan m n c.args.plan.now keeps c.requires.plan,
-                λ told. c.requires.pointers (told_before m n keeps told) c.loop-w.w c.loop-w-test.true ∙ sym (kept_pointer m n c.args.plan.now c.args.level (c.args.first + c.loop-w.w) keeps told),
-              ),
+              kept_plan m n c.args.plan.now keeps c.requires.plan,
+              λ told. c.requires.pointers (told_before m n keeps told) c.loop-w.w c.loop-w-test.true ∙ sym (kept_pointer m n c.args.plan.now c.args.level (c.args.first + c.loop-w.w) keeps told),
             ),
           ),
         ),

@@ -1,43 +1,22 @@
-use Rattle.qx_ptree.specs.declared.fresh_blocks.Plan.{Plan}
+use Rattle.std.proofs.Common.{subst}
+use Rattle.qx_blocks.specs.BlockState.{BlockState}
+use Rattle.qx_ptree.specs.declared.plan.Plan.{Plan}
+use Rattle.qx_ptree.specs.PreparedNode.{Prepares}
+use Rattle.qx_ptree.proofs.MadePlans.{made_plan}
 use Rattle.qx_ptree.proofs.PreparedNodes.{added-takes}
-use Rattle.qx_ptree.proofs.PreparedWhole.{whole-levels, whole-own, whole-prepared, whole-ready, whole-takes, whole-written}
+use Rattle.qx_ptree.proofs.PreparedWhole.{whole-prepares, whole_of}
 use Rattle.qx_ptree.proofs.building.prepare.Goals as goal
 
-pub returns-in-Ok-clause-levels : goal.returns-in-Ok-clause-levels
-returns-in-Ok-clause-levels g c =
-    let plan : Plan = record { node = c.args.node.now; order = c.args.order; change = c.args.change.now } in
-    whole-levels (g.B.Blocks.state c.args.blocks.now) (g.B.Blocks.state c.prepare_distinct.new.blocks) plan c.new-work.result c.prepare_distinct.new.work c.in-Ok.root c.new-work.ensures c.prepare_distinct.ensures.consistent
-    (record { levels = c.requires.levels; change = c.requires.change; works = c.requires.works; regular = c.requires.regular }) c.in-Ok.ensures.built
+pub prepare_distinct-requires : goal.prepare_distinct-requires
+prepare_distinct-requires g c = record { plan = made_plan (g.B.Blocks.state c.args.blocks.now) c.args.node.now c.args.order c.args.change.now c.new-plan.result c.new-plan.ensures c.requires.node c.requires.change }
 
-pub returns-in-Ok-clause-takes : goal.returns-in-Ok-clause-takes
-returns-in-Ok-clause-takes g c =
-    let plan : Plan = record { node = c.args.node.now; order = c.args.order; change = c.args.change.now } in
-    whole-takes (g.B.Blocks.state c.args.blocks.now) (g.B.Blocks.state c.prepare_distinct.new.blocks) plan c.new-work.result c.prepare_distinct.new.work c.in-Ok.root c.new-work.ensures c.prepare_distinct.ensures.consistent
-    (record { levels = c.requires.levels; change = c.requires.change; works = c.requires.works; regular = c.requires.regular }) c.in-Ok.ensures.built
-
-pub returns-in-Ok-clause-ready : goal.returns-in-Ok-clause-ready
-returns-in-Ok-clause-ready g c =
-    let plan : Plan = record { node = c.args.node.now; order = c.args.order; change = c.args.change.now } in
-    whole-ready (g.B.Blocks.state c.args.blocks.now) (g.B.Blocks.state c.prepare_distinct.new.blocks) plan c.new-work.result c.prepare_distinct.new.work c.in-Ok.root c.new-work.ensures c.prepare_distinct.ensures.consistent
-    (record { levels = c.requires.levels; change = c.requires.change; works = c.requires.works; regular = c.requires.regular }) c.in-Ok.ensures.built
-
-pub returns-in-Ok-clause-written : goal.returns-in-Ok-clause-written
-returns-in-Ok-clause-written g c =
-    let plan : Plan = record { node = c.args.node.now; order = c.args.order; change = c.args.change.now } in
-    whole-written (g.B.Blocks.state c.args.blocks.now) (g.B.Blocks.state c.prepare_distinct.new.blocks) plan c.new-work.result c.prepare_distinct.new.work c.in-Ok.root c.new-work.ensures c.prepare_distinct.ensures.consistent
-    (record { levels = c.requires.levels; change = c.requires.change; works = c.requires.works; regular = c.requires.regular }) c.in-Ok.ensures.built c.in-Ok.ensures.distinct
-
-pub returns-in-Ok-clause-own : goal.returns-in-Ok-clause-own
-returns-in-Ok-clause-own g c =
-    let plan : Plan = record { node = c.args.node.now; order = c.args.order; change = c.args.change.now } in
-    whole-own (g.B.Blocks.state c.args.blocks.now) (g.B.Blocks.state c.prepare_distinct.new.blocks) plan c.new-work.result c.prepare_distinct.new.work c.in-Ok.root c.new-work.ensures c.prepare_distinct.ensures.consistent
-    (record { levels = c.requires.levels; change = c.requires.change; works = c.requires.works; regular = c.requires.regular }) c.in-Ok.ensures.built c.in-Ok.ensures.distinct
-
-pub returns-in-Ok-clause-prepared : goal.returns-in-Ok-clause-prepared
-returns-in-Ok-clause-prepared g c =
-    let plan : Plan = record { node = c.args.node.now; order = c.args.order; change = c.args.change.now } in
-    whole-prepared (g.B.Blocks.state c.args.blocks.now) (g.B.Blocks.state c.prepare_distinct.new.blocks) plan c.new-work.result c.prepare_distinct.new.work c.in-Ok.root c.new-work.ensures c.prepare_distinct.ensures.consistent
-    (record { levels = c.requires.levels; change = c.requires.change; works = c.requires.works; regular = c.requires.regular }) c.in-Ok.ensures.built c.in-Ok.ensures.after c.prepare_distinct.ensures.long
+pub returns-in-Ok-clause-ok : goal.returns-in-Ok-clause-ok
+returns-in-Ok-clause-ok g c =
+    let m : BlockState = g.B.Blocks.state c.args.blocks.now in
+    let n : BlockState = g.B.Blocks.state c.prepare_distinct.new.blocks in
+    subst (λ (p : Plan). Prepares p.order m n p.node p.change (whole_of p c.in-Ok.root c.prepare_distinct.new.work)) c.new-plan.ensures.1
+    (whole-prepares m n c.new-plan.result c.new-work.result c.prepare_distinct.new.work c.in-Ok.root c.new-work.ensures c.prepare_distinct.ensures.consistent
+    (made_plan m c.args.node.now c.args.order c.args.change.now c.new-plan.result c.new-plan.ensures c.requires.node c.requires.change) c.in-Ok.ensures.built c.in-Ok.ensures.distinct c.in-Ok.ensures.after)
 
 pub returns-in-Err-clause-err : goal.returns-in-Err-clause-err
 returns-in-Err-clause-err g c =

@@ -18,59 +18,59 @@ returns-in_err-give_up_below-in-Goes-clause-err g c =
 pub returns-in-Stays-clause-built : goal.returns-in-Stays-clause-built
 returns-in-Stays-clause-built g c =
     let m : BlockState = g.B.Blocks.state c.args.blocks.now in
-    quiet_onto m c.args.plan.now 0 c.args.index c.args.pointer c.args.work.now c.size.ensures.consistent c.requires.long c.requires.plan (omega arith) (inl (omega arith)) c.requires.pointer
+    quiet_onto m c.args.plan.now 0 c.args.index c.args.pointer c.args.work.now c.size.ensures.consistent c.requires.plan (omega arith) (inl (omega arith)) c.requires.pointer
     (fare_one m.holdings.size c.args.plan.now Stays c.args.index (fate_here m c.args.plan.now c.args.index c.div_ceil-leaves.result c.size.result Stays c.leaf_fate.result c.size.ensures.consistent c.leaf_fate.ensures c.in-Stays.is c.div_ceil-leaves.ensures c.size.ensures.size))
 
 pub returns-in-Stays-clause-changed : goal.returns-in-Stays-clause-changed
 returns-in-Stays-clause-changed g c told =
     let m : BlockState = g.B.Blocks.state c.args.blocks.now in
-    sym (ap (λ (x : Part). x.changed) (fare_part m c.args.plan.now Stays 0 c.args.index c.args.pointer c.size.ensures.consistent c.requires.long c.requires.plan (λ e. absurd (cc)) (omega arith) (inl (omega arith)) c.requires.pointer
+    sym (ap (λ (x : Part). x.changed) (fare_part m c.args.plan.now Stays 0 c.args.index c.args.pointer c.size.ensures.consistent c.requires.plan (λ e. absurd (cc)) (omega arith) (inl (omega arith)) c.requires.pointer
     (fare_one m.holdings.size c.args.plan.now Stays c.args.index (fate_here m c.args.plan.now c.args.index c.div_ceil-leaves.result c.size.result Stays c.leaf_fate.result c.size.ensures.consistent c.leaf_fate.ensures c.in-Stays.is c.div_ceil-leaves.ensures c.size.ensures.size)) told))
 
 pub returns-in-Stays-clause-present : goal.returns-in-Stays-clause-present
 returns-in-Stays-clause-present g c told =
     let m : BlockState = g.B.Blocks.state c.args.blocks.now in
-    sym (ap (λ (x : Part). x.present) (fare_part m c.args.plan.now Stays 0 c.args.index c.args.pointer c.size.ensures.consistent c.requires.long c.requires.plan (λ e. absurd (cc)) (omega arith) (inl (omega arith)) c.requires.pointer
+    sym (ap (λ (x : Part). x.present) (fare_part m c.args.plan.now Stays 0 c.args.index c.args.pointer c.size.ensures.consistent c.requires.plan (λ e. absurd (cc)) (omega arith) (inl (omega arith)) c.requires.pointer
     (fare_one m.holdings.size c.args.plan.now Stays c.args.index (fate_here m c.args.plan.now c.args.index c.div_ceil-leaves.result c.size.result Stays c.leaf_fate.result c.size.ensures.consistent c.leaf_fate.ensures c.in-Stays.is c.div_ceil-leaves.ensures c.size.ensures.size)) told))
 
 pub returns-in_ok-give_up_below-in-Goes-clause-built : goal.returns-in_ok-give_up_below-in-Goes-clause-built
 returns-in_ok-give_up_below-in-Goes-clause-built g c =
     let m : BlockState = g.B.Blocks.state c.args.blocks.now in
-    gone_onto m (g.B.Blocks.state c.give_up_below.new.blocks) c.args.plan.now 0 c.args.index c.args.work.now c.give_up_below.new.work c.size.ensures.consistent c.requires.long c.requires.plan (omega arith) (inl (omega arith))
+    gone_onto m (g.B.Blocks.state c.give_up_below.new.blocks) c.args.plan.now 0 c.args.index c.args.work.now c.give_up_below.new.work c.size.ensures.consistent c.requires.plan (omega arith) (inl (omega arith))
     (fare_one m.holdings.size c.args.plan.now Goes c.args.index (fate_here m c.args.plan.now c.args.index c.div_ceil-leaves.result c.size.result Goes c.leaf_fate.result c.size.ensures.consistent c.leaf_fate.ensures c.in-Goes.is c.div_ceil-leaves.ensures c.size.ensures.size))
     c.give_up_below.ensures.reads.keeps c.in_ok-give_up_below-in-Goes.ensures.gone
 
 pub returns-in_ok-give_up_below-in-Goes-clause-changed : goal.returns-in_ok-give_up_below-in-Goes-clause-changed
 returns-in_ok-give_up_below-in-Goes-clause-changed g c told =
     let m : BlockState = g.B.Blocks.state c.args.blocks.now in
-    sym (ap (λ (x : Part). x.changed) (fare_part m c.args.plan.now Goes 0 c.args.index c.args.pointer c.size.ensures.consistent c.requires.long c.requires.plan (λ e. absurd (cc)) (omega arith) (inl (omega arith)) c.requires.pointer
+    sym (ap (λ (x : Part). x.changed) (fare_part m c.args.plan.now Goes 0 c.args.index c.args.pointer c.size.ensures.consistent c.requires.plan (λ e. absurd (cc)) (omega arith) (inl (omega arith)) c.requires.pointer
     (fare_one m.holdings.size c.args.plan.now Goes c.args.index (fate_here m c.args.plan.now c.args.index c.div_ceil-leaves.result c.size.result Goes c.leaf_fate.result c.size.ensures.consistent c.leaf_fate.ensures c.in-Goes.is c.div_ceil-leaves.ensures c.size.ensures.size))
     (told_before m (g.B.Blocks.state c.give_up_below.new.blocks) c.give_up_below.ensures.reads.keeps told)))
 
 pub returns-in_ok-give_up_below-in-Goes-clause-present : goal.returns-in_ok-give_up_below-in-Goes-clause-present
 returns-in_ok-give_up_below-in-Goes-clause-present g c told =
     let m : BlockState = g.B.Blocks.state c.args.blocks.now in
-    sym (ap (λ (x : Part). x.present) (fare_part m c.args.plan.now Goes 0 c.args.index c.args.pointer c.size.ensures.consistent c.requires.long c.requires.plan (λ e. absurd (cc)) (omega arith) (inl (omega arith)) c.requires.pointer
+    sym (ap (λ (x : Part). x.present) (fare_part m c.args.plan.now Goes 0 c.args.index c.args.pointer c.size.ensures.consistent c.requires.plan (λ e. absurd (cc)) (omega arith) (inl (omega arith)) c.requires.pointer
     (fare_one m.holdings.size c.args.plan.now Goes c.args.index (fate_here m c.args.plan.now c.args.index c.div_ceil-leaves.result c.size.result Goes c.leaf_fate.result c.size.ensures.consistent c.leaf_fate.ensures c.in-Goes.is c.div_ceil-leaves.ensures c.size.ensures.size))
     (told_before m (g.B.Blocks.state c.give_up_below.new.blocks) c.give_up_below.ensures.reads.keeps told)))
 
 pub returns-in_ok-written_leaf-in-Written-clause-built : goal.returns-in_ok-written_leaf-in-Written-clause-built
 returns-in_ok-written_leaf-in-Written-clause-built g c =
     let m : BlockState = g.B.Blocks.state c.args.blocks.now in
-    leaf_onto m (g.B.Blocks.state c.written_leaf.new.blocks) c.args.plan.now c.args.index c.args.pointer _ c.args.work.now c.written_leaf.new.work c.size.ensures.consistent c.requires.long c.requires.plan c.requires.pointer
+    leaf_onto m (g.B.Blocks.state c.written_leaf.new.blocks) c.args.plan.now c.args.index c.args.pointer _ c.args.work.now c.written_leaf.new.work c.size.ensures.consistent c.requires.plan c.requires.pointer
     (fate_here m c.args.plan.now c.args.index c.div_ceil-leaves.result c.size.result Written c.leaf_fate.result c.size.ensures.consistent c.leaf_fate.ensures c.in-Written.is c.div_ceil-leaves.ensures c.size.ensures.size)
     c.in_ok-written_leaf-in-Written.ensures.written
 
 pub returns-in_ok-written_leaf-in-Written-clause-changed : goal.returns-in_ok-written_leaf-in-Written-clause-changed
 returns-in_ok-written_leaf-in-Written-clause-changed g c told =
     let m : BlockState = g.B.Blocks.state c.args.blocks.now in
-    sym (ap (λ (x : Part). x.changed) (written_part m c.args.plan.now c.args.index (record { consistent = c.size.ensures.consistent; long = c.requires.long; met = c.requires.plan; told = c.in_ok-written_leaf-in-Written.ensures.written.adds.takes.told_before told })
+    sym (ap (λ (x : Part). x.changed) (written_part m c.args.plan.now c.args.index (record { consistent = c.size.ensures.consistent; met = c.requires.plan; told = c.in_ok-written_leaf-in-Written.ensures.written.adds.takes.told_before told })
     (fate_here m c.args.plan.now c.args.index c.div_ceil-leaves.result c.size.result Written c.leaf_fate.result c.size.ensures.consistent c.leaf_fate.ensures c.in-Written.is c.div_ceil-leaves.ensures c.size.ensures.size)))
 
 pub returns-in_ok-written_leaf-in-Written-clause-present : goal.returns-in_ok-written_leaf-in-Written-clause-present
 returns-in_ok-written_leaf-in-Written-clause-present g c told =
     let m : BlockState = g.B.Blocks.state c.args.blocks.now in
-    sym (ap (λ (x : Part). x.present) (written_part m c.args.plan.now c.args.index (record { consistent = c.size.ensures.consistent; long = c.requires.long; met = c.requires.plan; told = c.in_ok-written_leaf-in-Written.ensures.written.adds.takes.told_before told })
+    sym (ap (λ (x : Part). x.present) (written_part m c.args.plan.now c.args.index (record { consistent = c.size.ensures.consistent; met = c.requires.plan; told = c.in_ok-written_leaf-in-Written.ensures.written.adds.takes.told_before told })
     (fate_here m c.args.plan.now c.args.index c.div_ceil-leaves.result c.size.result Written c.leaf_fate.result c.size.ensures.consistent c.leaf_fate.ensures c.in-Written.is c.div_ceil-leaves.ensures c.size.ensures.size)))
 
 pub returns-in-Stays-clause-reaches : goal.returns-in-Stays-clause-reaches

@@ -3,7 +3,7 @@ use Rattle.qx_geom.specs.Layout.{levels_for}
 use Rattle.qx_blocks.specs.BlockState.{BlockState}
 use Rattle.qx_ptree.specs.Fates.{leaves_after}
 use Rattle.qx_ptree.specs.Plans.{InReach}
-use Rattle.qx_ptree.proofs.CarriedPlans.{plan_after}
+use Rattle.qx_ptree.proofs.KeptNodes.{plan_after}
 use Rattle.qx_ptree.proofs.KeptPlans.{kept_consistent, kept_plan, told_before}
 use Rattle.qx_ptree.proofs.PartBounds.{top-reach}
 use Rattle.qx_ptree.proofs.PlannedParts.{level-is}
@@ -63,13 +63,13 @@ prepare_at-requires-clause-level g c =
 pub prepare_at-requires-clause-plan : goal.prepare_at-requires-clause-plan
 prepare_at-requires-clause-plan g c =
     let u = c.loop-j.invariant.underway in
-    plan_after u.adds.added.fresh (g.B.Blocks.state c.args.blocks.now) (g.B.Blocks.state c.loop-j.blocks) c.args.plan.now c.size-size.ensures.consistent c.top_pointers.ensures.long c.requires.plan u.adds.takes
+    plan_after u.adds.added.fresh (g.B.Blocks.state c.args.blocks.now) (g.B.Blocks.state c.loop-j.blocks) c.args.plan.now c.size-size.ensures.consistent c.requires.plan u.adds.takes
 
 pub prepare_at-requires-clause-pointer : goal.prepare_at-requires-clause-pointer
 prepare_at-requires-clause-pointer g c told =
     let u = c.loop-j.invariant.underway in
     c.in_ok-old.ensures.pointers (told_before (g.B.Blocks.state c.top_pointers.new.blocks) (g.B.Blocks.state c.give_up_outside.new.blocks) c.give_up_outside.ensures.reads.keeps (c.loop-j.invariant.told told)) c.loop-j.j (omega (arith, c.loop-j-test.true))
-    ∙ sym (later_pointer u.adds.added.fresh (g.B.Blocks.state c.args.blocks.now) (g.B.Blocks.state c.loop-j.blocks) c.args.plan.now c.levels-level.result c.loop-j.j c.size-size.ensures.consistent c.top_pointers.ensures.long c.requires.plan u.adds.takes told)
+    ∙ sym (later_pointer u.adds.added.fresh (g.B.Blocks.state c.args.blocks.now) (g.B.Blocks.state c.loop-j.blocks) c.args.plan.now c.levels-level.result c.loop-j.j c.size-size.ensures.consistent c.requires.plan u.adds.takes told)
 
 pub returns-in_err-pointers-clause-err : goal.returns-in_err-pointers-clause-err
 returns-in_err-pointers-clause-err g c =
@@ -86,7 +86,7 @@ loop-j-preserved g c =
     let o : BlockState = g.B.Blocks.state c.prepare_at.new.blocks in
     record {
       underway = underway_more (g.B.Blocks.state c.args.blocks.now) n o c.args.work.now c.loop-j.work c.prepare_at.new.work c.args.plan.now c.levels-level.result c.loop-j.j c.in_ok-pointers.field-0.pointer c.loop-j.pointers
-          c.size-size.ensures.consistent c.top_pointers.ensures.long c.requires.plan c.prepare_at.ensures.consistent (omega (arith, c.loop-j-test.true, c.loop-j.invariant.long)) c.loop-j.invariant.underway c.in_ok-pointers.ensures.built c.in_ok-pointers.ensures.reaches;
+          c.size-size.ensures.consistent c.requires.plan c.prepare_at.ensures.consistent (omega (arith, c.loop-j-test.true, c.loop-j.invariant.long)) c.loop-j.invariant.underway c.in_ok-pointers.ensures.built c.in_ok-pointers.ensures.reaches;
       long = length-set c.loop-j.pointers c.loop-j.j c.in_ok-pointers.field-0.pointer ∙ c.loop-j.invariant.long;
       told = λ told. c.loop-j.invariant.told (c.in_ok-pointers.ensures.reaches.adds.takes.told_before told);
       aside = search rules;

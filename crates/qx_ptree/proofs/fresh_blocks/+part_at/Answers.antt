@@ -5,7 +5,7 @@ use Rattle.qx_geom.specs.Pointer.{absent, per_block}
 use Rattle.qx_geom.specs.Positions.{Shape, has_position}
 use Rattle.qx_blocks.specs.BlockState.{BlockState}
 use Rattle.qx_nodes.proofs.MetLeaves.{present_ascends}
-use Rattle.qx_ptree.specs.declared.fresh_blocks.Plan.{Plan}
+use Rattle.qx_ptree.specs.declared.plan.Plan.{Plan}
 use Rattle.qx_ptree.specs.Fates.{leaves_after}
 use Rattle.qx_ptree.specs.Trees.{block_map}
 use Rattle.qx_ptree.specs.Parts.{part_of}
@@ -22,12 +22,12 @@ use Rattle.qx_ptree.proofs.fresh_blocks.+part_at.Goals as goal
 pub alike_part-requires-clause-pointer : goal.alike_part-requires-clause-pointer
 alike_part-requires-clause-pointer g t c told =
     planned_lead (g.B.Blocks.state c.args.blocks.now) c.args.plan.now c.args.level c.args.index c.args.pointer c.leading-pointer.result
-    (record { consistent = c.leading-pointer.ensures.consistent; long = c.requires.long; met = c.requires.plan; told = told }) (c.requires.pointer told) c.leading-pointer.ensures.same
+    (record { consistent = c.leading-pointer.ensures.consistent; met = c.requires.plan; told = told }) (c.requires.pointer told) c.leading-pointer.ensures.same
 
 pub part_of_leaf-requires-clause-pointer : goal.part_of_leaf-requires-clause-pointer
 part_of_leaf-requires-clause-pointer g t c told =
     planned_lead (g.B.Blocks.state c.args.blocks.now) c.args.plan.now c.args.level c.args.index c.args.pointer c.leading-pointer.result
-    (record { consistent = c.leading-pointer.ensures.consistent; long = c.requires.long; met = c.requires.plan; told = told }) (c.requires.pointer told) c.leading-pointer.ensures.same
+    (record { consistent = c.leading-pointer.ensures.consistent; met = c.requires.plan; told = told }) (c.requires.pointer told) c.leading-pointer.ensures.same
     ∙ ap (λ k. planned_pointer c.args.plan.now (g.B.Blocks.state c.args.blocks.now) k c.args.index) c.if-level-eq0.true
 
 pub returns-then-level-eq0-clause-part : goal.returns-then-level-eq0-clause-part
@@ -37,7 +37,7 @@ returns-then-level-eq0-clause-part g t c told le =
 pub pointers_below-requires-clause-pointer : goal.pointers_below-requires-clause-pointer
 pointers_below-requires-clause-pointer g t c told =
     planned_lead (g.B.Blocks.state c.args.blocks.now) c.args.plan.now c.args.level c.args.index c.args.pointer c.leading-pointer.result
-    (record { consistent = c.leading-pointer.ensures.consistent; long = c.requires.long; met = c.requires.plan; told = told }) (c.requires.pointer told) c.leading-pointer.ensures.same
+    (record { consistent = c.leading-pointer.ensures.consistent; met = c.requires.plan; told = told }) (c.requires.pointer told) c.leading-pointer.ensures.same
 
 pub overflow_mul-child : goal.overflow_mul-child
 overflow_mul-child g t c = omega (arith, child-fits (g.B.Blocks.state c.args.blocks.now).holdings.size c.args.level c.args.index (c.size-words.result / 4) c.size-words.ensures.consistent.size (omega (arith, c.if-level-eq0.false)) c.requires.reach (ap (λ n. n / 4) c.size-words.ensures.size))
@@ -59,13 +59,10 @@ part_at-requires g t c κs within =
           kept_reach m mid (c.args.level - 1) (c.args.index * (c.size-words.result / 4) + c.loop-w.w) c.loop-w.invariant.keeps reach,
           (
             kept_plan m mid c.args.plan.now c.loop-w.invariant.keeps c.requires.plan,
-            (
-              c.requires.long,
-              λ told.
-                  of_part (λ xs. slice_index xs c.loop-w.w ≡ planned_pointer c.args.plan.now m (c.args.level - 1) (c.args.index * per_block m.holdings.size + c.loop-w.w)) (c.size-words.result / 4) c.pointers_below.new.into _ long
-                  (c.in_ok-pointers_below.ensures.pointers (c.loop-w.invariant.told told) c.loop-w.w (omega (arith, low, long)))
-                  ∙ (λ i. planned_pointer c.args.plan.now (sym (c.loop-w.invariant.keeps.told told) i) (c.args.level - 1) (c.args.index * (sym (ap (λ n. n / 4) c.size-words.ensures.size) i) + c.loop-w.w)),
-            ),
+            λ told.
+                of_part (λ xs. slice_index xs c.loop-w.w ≡ planned_pointer c.args.plan.now m (c.args.level - 1) (c.args.index * per_block m.holdings.size + c.loop-w.w)) (c.size-words.result / 4) c.pointers_below.new.into _ long
+                (c.in_ok-pointers_below.ensures.pointers (c.loop-w.invariant.told told) c.loop-w.w (omega (arith, low, long)))
+                ∙ (λ i. planned_pointer c.args.plan.now (sym (c.loop-w.invariant.keeps.told told) i) (c.args.level - 1) (c.args.index * (sym (ap (λ n. n / 4) c.size-words.ensures.size) i) + c.loop-w.w)),
           ),
         ),
       ),
@@ -117,7 +114,7 @@ returns-clause-part g t c = λ told le.
     let words : 0 < per_block b = words_positive b c.size-words.ensures.consistent.size in
     let old : Shape = (alteration_in plan m).old in
     let all : c.loop-w.w ≡ per_block b = omega (arith, c.loop-w-test.false, c.loop-w.auto, c.pointers_below.ensures.long, c.size-words.ensures.size) in
-    let known : IsToldPlan m plan = record { consistent = c.leading-pointer.ensures.consistent; long = c.requires.long; met = c.requires.plan; told = subst (λ x. IsTrue x.tells) (c.loop-w.invariant.keeps.told told) told } in
+    let known : IsToldPlan m plan = record { consistent = c.leading-pointer.ensures.consistent; met = c.requires.plan; told = subst (λ x. IsTrue x.tells) (c.loop-w.invariant.keeps.told told) told } in
     let pointer : c.leading-pointer.result ≡ planned_pointer plan m c.args.level c.args.index = planned_lead m plan c.args.level c.args.index c.args.pointer c.leading-pointer.result known (c.requires.pointer known.told) c.leading-pointer.ensures.same in
     let had : not (c.leading-pointer.result == absent) ≡ has_position b old c.args.level c.args.index = ap (λ q. not (q == absent)) pointer ∙ sym (planned_position m plan c.args.level c.args.index known) in
     let private : c.is_private-private.result ≡ m.holdings.private (planned_pointer plan m c.args.level c.args.index) = c.is_private-private.ensures.private ∙ ap (λ h. h.private c.leading-pointer.result) c.loop-w.invariant.keeps.holdings ∙ ap m.holdings.private pointer in

@@ -16,7 +16,7 @@ returns-in-Written-2-clause-part g c = λ told le.
     let m : BlockState = g.B.Blocks.state c.args.blocks.now in
     let all : AllFare m.holdings.size c.args.plan.now.change Written c.args.level c.args.index = λ i from to. c.in_ok-fate.ensures.fate i from to ∙ c.in-Written-2.is in
     (λ i. record { need = (c.full.ensures ∙ ap (λ n. full_below (n / 4) c.args.level) c.size.ensures.size) i; changed = true; present = true })
-    ∙ alike-written m c.args.plan.now c.args.level c.args.index c.args.pointer (record { consistent = c.requires.consistent; long = c.requires.long; met = c.requires.plan; told = told }) c.in_ok-fate.ensures.level (c.requires.pointer told) le (ap (λ q. not (q == absent)) c.if-had.false) all
+    ∙ alike-written m c.args.plan.now c.args.level c.args.index c.args.pointer (record { consistent = c.requires.consistent; met = c.requires.plan; told = told }) c.in_ok-fate.ensures.level (c.requires.pointer told) le (ap (λ q. not (q == absent)) c.if-had.false) all
 
 pub returns-in-Written-2-clause-few : goal.returns-in-Written-2-clause-few
 returns-in-Written-2-clause-few g c =
@@ -29,7 +29,7 @@ returns-in_default g c =
     record {
       part = λ told le.
           c.leaf_part.ensures
-          ∙ alike-unwritten m c.args.plan.now c.args.level c.args.index c.args.pointer c.in_ok-fate.fate (record { consistent = c.requires.consistent; long = c.requires.long; met = c.requires.plan; told = told }) c.in_ok-fate.ensures.level (c.requires.pointer told) le
+          ∙ alike-unwritten m c.args.plan.now c.args.level c.args.index c.args.pointer c.in_ok-fate.fate (record { consistent = c.requires.consistent; met = c.requires.plan; told = told }) c.in_ok-fate.ensures.level (c.requires.pointer told) le
           c.in_default.not-Written c.in_ok-fate.ensures.fate;
       few = omega (arith, ap (λ p. p.need) c.leaf_part.ensures, power-some m.holdings.size c.args.level c.requires.consistent.size, unwritten-none c.in_ok-fate.fate (not (c.args.pointer == absent)) true c.in_default.not-Written);
     }

@@ -5,7 +5,7 @@ use Rattle.qx_geom.specs.Positions.{Shape}
 use Rattle.qx_geom.specs.Lists.{is_in}
 use Rattle.qx_blocks.specs.BlockState.{BlockState}
 use Rattle.qx_nodes.proofs.MetLeaves.{present_ascends}
-use Rattle.qx_ptree.specs.declared.fresh_blocks.Plan.{Plan}
+use Rattle.qx_ptree.specs.declared.plan.Plan.{Plan}
 use Rattle.qx_ptree.specs.Fates.{fate_of, leaves_after}
 use Rattle.qx_ptree.specs.Parts.{leaf_part}
 use Rattle.qx_ptree.specs.Plans.{alteration_in, planned_pointer}
@@ -23,7 +23,7 @@ returns-clause-part g c = λ told.
     let plan : Plan = c.args.plan.now in
     let b : ℕ = m.holdings.size in
     let old : Shape = (alteration_in plan m).old in
-    let known : IsToldPlan m plan = record { consistent = c.size.ensures.consistent; long = c.requires.long; met = c.requires.plan; told = told } in
+    let known : IsToldPlan m plan = record { consistent = c.size.ensures.consistent; met = c.requires.plan; told = told } in
     let pointer : c.args.pointer ≡ planned_pointer plan m 0 c.args.index = c.requires.pointer told in
     let had : not (c.args.pointer == absent) ≡ is_in old.present c.args.index =
     ap (λ q. not (q == absent)) pointer ∙ sym (planned_below m plan 0 c.args.index known (omega arith)) ∙ below-leaf b old.present c.args.index in

@@ -10,7 +10,7 @@ pub read_pointers-requires-clause-leads : goal.read_pointers-requires-clause-lea
 read_pointers-requires-clause-leads g c told =
     let m : BlockState = g.B.Blocks.state c.args.blocks.now in
     subst (λ q. q ≢ absent → IsTrue (m.holdings.works q)) (sym (c.requires.pointer told))
-    (planned_leads m c.args.plan.now c.args.level c.args.index (record { consistent = c.requires.consistent; long = c.own_pointers-own.ensures.long; met = c.requires.plan; told = told }))
+    (planned_leads m c.args.plan.now c.args.level c.args.index (record { consistent = c.requires.consistent; met = c.requires.plan; told = told }))
 
 pub returns-then-level-plan-clause-pointers : goal.returns-then-level-plan-clause-pointers
 returns-then-level-plan-clause-pointers g c =
@@ -20,7 +20,7 @@ returns-then-level-plan-clause-pointers g c =
     (λ words told w low.
     let m_told : IsTrue m.tells = subst (λ x. IsTrue x.tells) (c.read_pointers.ensures.reads.keeps.told told) told in
     words told w low
-    ∙ planned_step m c.args.plan.now c.args.level c.args.index w c.args.pointer c.requires.consistent c.own_pointers-own.ensures.long c.requires.level (omega (arith, low, c.requires.room)) other (c.requires.pointer m_told))
+    ∙ planned_step m c.args.plan.now c.args.level c.args.index w c.args.pointer c.requires.consistent c.requires.level (omega (arith, low, c.requires.room)) other (c.requires.pointer m_told))
     c.read_pointers.ensures.pointers
 
 pub slice_bounds-copy_from_slice-end : goal.slice_bounds-copy_from_slice-end
@@ -31,5 +31,5 @@ slice_bounds-copy_from_slice-end g c =
 
 pub returns-clause-pointers : goal.returns-clause-pointers
 returns-clause-pointers g c told w low =
-    own_first c.args.plan.now.node.pointers c.fill.new.self c.copy_from_slice.new.self (length c.args.into.now) w c.own_pointers-own.ensures.long (c.copy_from_slice.ensures.after ∙ c.own_pointers-own.ensures.own) (c.fill.ensures.after (λ y e. e)) low
+    own_first c.args.plan.now.node.pointers c.fill.new.self c.copy_from_slice.new.self (length c.args.into.now) w c.args.plan.now.sixteen c.copy_from_slice.ensures.after (c.fill.ensures.after (λ y e. e)) low
     ∙ planned_first (g.B.Blocks.state c.args.blocks.now) c.args.plan.now c.args.level c.args.index w c.if-level-plan.false c.if-index-ne0.false

@@ -7,7 +7,7 @@ use Rattle.qx_ptree.proofs.pointers.top_pointers.Goals as goal
 
 pub loop-init : goal.loop-init
 loop-init g c = record {
-  pointers = λ told j low. planned_top (g.B.Blocks.state c.args.blocks.now) c.args.plan.now c.args.level j c.own_pointers-pointers.result c.own_pointers-pointers.ensures.long c.own_pointers-pointers.ensures.own low;
+  pointers = λ told j low. planned_top (g.B.Blocks.state c.args.blocks.now) c.args.plan.now c.args.level j low;
   keeps = search rules;
   aside = search rules;
   faults = search rules;
@@ -21,7 +21,7 @@ read_pointers-requires-clause-room g c =
 
 pub read_pointers-requires-clause-leads : goal.read_pointers-requires-clause-leads
 read_pointers-requires-clause-leads g c told =
-    leads_after (g.B.Blocks.state c.args.blocks.now) (g.B.Blocks.state c.loop.blocks) c.args.plan.now (c.args.plan.now.node.levels + c.args.level - c.loop.counter) 0 _ c.requires.consistent c.own_pointers-pointers.ensures.long c.requires.plan c.loop.invariant.keeps
+    leads_after (g.B.Blocks.state c.args.blocks.now) (g.B.Blocks.state c.loop.blocks) c.args.plan.now (c.args.plan.now.node.levels + c.args.level - c.loop.counter) 0 _ c.requires.consistent c.requires.plan c.loop.invariant.keeps
     (c.loop.invariant.pointers told 0 (omega arith)) told
 
 pub loop-preserved : goal.loop-preserved

@@ -1,32 +1,30 @@
 use Rattle.std.proofs.lemmas.Result.{err_from_is_err_and}
 use Rattle.std.proofs.Common.{[], ap, Err}
+use Rattle.qx_ptree.proofs.KeptNodes.{node_taken}
 use Rattle.qx_ptree.proofs.TakenBlocks.{Takes-after}
 use Rattle.tree_bench.proofs.Reasons.{stopped}
-use Rattle.tree_bench.proofs.KeptNodes.{node-back}
 use Rattle.tree_bench.proofs.changes.try_node.Goals as goal
 
 pub returns-in_err-p-clause-node : goal.returns-in_err-p-clause-node
 returns-in_err-p-clause-node g c =
-    node-back c.args.order (g.B.Blocks.state c.args.blocks.now) (g.B.Blocks.state c.checked_need.new.blocks) (g.B.Blocks.state c.prepare.new.blocks) c.args.node.now c.args.change.now
-    c.checked_need.ensures.keeps c.in_ok-takes.ensures.consistent c.in_ok-takes.ensures.long c.in_ok-takes.ensures.change c.in_err-p.ensures.err c.in_ok-takes.ensures.node
+    node_taken c.args.order [] (g.B.Blocks.state c.checked_need.new.blocks) (g.B.Blocks.state c.prepare.new.blocks) c.args.node.now c.in_ok-takes.ensures.consistent c.in_err-p.ensures.err c.in_ok-takes.ensures.node
 
 pub returns-clause-made : goal.returns-clause-made
 returns-clause-made g c = λ told.
     let n = g.B.Blocks.state c.checked_need.new.blocks in
-    let back = c.abandon.ensures.back n c.in_ok-p.ensures.takes in
+    let back = c.abandon.ensures.back n c.in_ok-p.ensures.ok.takes in
     c.in_ok-takes.ensures.need (back.told_before told)
 
 pub returns-clause-back : goal.returns-clause-back
 returns-clause-back g c =
     let m = g.B.Blocks.state c.args.blocks.now in
     let n = g.B.Blocks.state c.checked_need.new.blocks in
-    Takes-after [] m n (g.B.Blocks.state c.abandon.new.blocks) c.checked_need.ensures.keeps (c.abandon.ensures.back n c.in_ok-p.ensures.takes)
+    Takes-after [] m n (g.B.Blocks.state c.abandon.new.blocks) c.checked_need.ensures.keeps (c.abandon.ensures.back n c.in_ok-p.ensures.ok.takes)
 
 pub returns-clause-node : goal.returns-clause-node
 returns-clause-node g c =
     let n = g.B.Blocks.state c.checked_need.new.blocks in
-    node-back c.args.order (g.B.Blocks.state c.args.blocks.now) n (g.B.Blocks.state c.abandon.new.blocks) c.args.node.now c.args.change.now
-    c.checked_need.ensures.keeps c.in_ok-takes.ensures.consistent c.in_ok-takes.ensures.long c.in_ok-takes.ensures.change (c.abandon.ensures.back n c.in_ok-p.ensures.takes) c.in_ok-takes.ensures.node
+    node_taken c.args.order [] n (g.B.Blocks.state c.abandon.new.blocks) c.args.node.now c.in_ok-takes.ensures.consistent (c.abandon.ensures.back n c.in_ok-p.ensures.ok.takes) c.in_ok-takes.ensures.node
 
 pub returns-in_err-p-clause-reason : goal.returns-in_err-p-clause-reason
 returns-in_err-p-clause-reason g c =

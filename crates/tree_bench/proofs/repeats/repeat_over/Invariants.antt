@@ -1,4 +1,4 @@
-use Rattle.tree_bench.specs.Nodes.{IsNode}
+use Rattle.qx_ptree.specs.Trees.{IsNode}
 use Rattle.tree_bench.proofs.repeats.repeat_over.Given as goal
 
 abbrev pub invariant-loop : goal.invariant-loop

@@ -1,5 +1,5 @@
-use Rattle.qx_ptree.proofs.EmptyNodes.{empty-regular}
+use Rattle.qx_ptree.proofs.EmptyNodes.{empty-node}
 use Rattle.block_tests.proofs.file.written.empty.Goals as goal
 
-pub returns-clause-regular : goal.returns-clause-regular
-returns-clause-regular g c = empty-regular c.args.order (g.B.Blocks.state c.args.blocks.now) c.size-size.ensures.consistent.size
+pub returns : goal.returns
+returns g c = empty-node c.args.order (g.B.Blocks.state c.args.blocks.now) c.size-size.ensures.consistent.size

@@ -3,8 +3,8 @@ use Rattle.std.proofs.lemmas.Bool.{cases_lt}
 use Rattle.qx_blocks.specs.BlockState.{BlockState}
 use Rattle.qx_file.specs.FilePlans.{greatest_end, write_change}
 use Rattle.qx_file.specs.Puts.{CanPut}
-use Rattle.qx_file.proofs.CommittedFiles.{plan_can}
-use Rattle.tree_bench.proofs.WrittenNodes.{node-put, some_bytes}
+use Rattle.qx_file.proofs.CommittedFiles.{plan_can, put_node}
+use Rattle.tree_bench.proofs.WrittenNodes.{some_bytes}
 use Rattle.tree_bench.proofs.tests.asked.write.Goals as goal
 
 pub put-requires : goal.put-requires
@@ -27,4 +27,4 @@ returns-clause-node g c =
     let can : CanPut c.args.order m c.change_node.new.node c.args.at count =
     plan_can c.args.order m c.args.node.now c.change_node.new.node c.args.at count c.size-blocksize.result c.in-Ok.change
     (c.size-blocksize.ensures.size ∙ sym c.change_node.ensures.blocksize) c.size-size.ensures.consistent some is c.change_node.ensures.node.levels c.in_ok-change_node.ensures.size c.in_ok-change_node.ensures.written in
-    node-put c.args.order m (g.B.Blocks.state c.put.new.blocks) c.change_node.new.node c.args.at c.args.bytes.now c.size-size.ensures.consistent can c.put.ensures.puts c.change_node.ensures.node
+    put_node c.args.order m (g.B.Blocks.state c.put.new.blocks) c.change_node.new.node c.args.at c.args.bytes.now c.size-size.ensures.consistent can c.put.ensures.puts c.change_node.ensures.node

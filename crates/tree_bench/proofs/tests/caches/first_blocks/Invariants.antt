@@ -1,4 +1,4 @@
-use Rattle.tree_bench.specs.Nodes.{IsNode}
+use Rattle.qx_ptree.specs.Trees.{IsNode}
 use Rattle.tree_bench.proofs.tests.caches.first_blocks.Given as goal
 
 abbrev pub invariant-loop-index : goal.invariant-loop-index

@@ -1,5 +1,5 @@
 use Rattle.qx_cache.specs.CacheState.{state_of}
-use Rattle.tree_bench.specs.Nodes.{IsNode}
+use Rattle.qx_ptree.specs.Trees.{IsNode}
 use Rattle.tree_bench.proofs.tests.caches.write_all.Given as goal
 
 abbrev pub invariant-loop-count : goal.invariant-loop-count

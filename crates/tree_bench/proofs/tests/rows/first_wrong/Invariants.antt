@@ -1,5 +1,5 @@
 use Rattle.std.proofs.Common.{◌≡◌}
-use Rattle.tree_bench.specs.Nodes.{IsNode}
+use Rattle.qx_ptree.specs.Trees.{IsNode}
 use Rattle.tree_bench.proofs.tests.rows.first_wrong.Given as goal
 
 abbrev pub invariant-loop-place : goal.invariant-loop-place
