@@ -190,7 +190,7 @@ parts first second which s a b one two a_is search b_is picked named = record {
     lens : (k : ℕ) → k < 96 → length (made_block k) ≡ 512
     lens k low = made_long k
 
--- what the maker writes
+-- what the maker leaves
 pub whole : HasBlocks small_image Second made_super
 whole = parts first_bytes second_bytes Second made_super (Some made_first) (Some made_super) first_long second_long first_valid refl second_valid refl refl
 

@@ -114,7 +114,7 @@ chain = blocks_of 8 (λ b. flat_map (λ w. digits Little 4 (b + 1)) (range_with_
 abbrev pub chained : ℕ → Root
 chained levels = record { size = 2 ^ 48; pointers = 1 ∷ replicate 14 absent ++ 1 ∷ []; levels = levels }
 
--- ---- what the maker writes at the moment 1000 on a device of 65536 bytes: 96 blocks, halves of 5 blocks, and the top directory in block 10
+-- ---- what the maker leaves at the moment 1000 on a device of 65536 bytes that are 0: 96 blocks, halves of 5 blocks, and the top directory in block 10
 
 -- a bitmap with this second byte
 abbrev pub bitmap_bytes : ℕ → List ℕ

@@ -1,4 +1,4 @@
--- The small volume byte by byte: what the maker writes at the moment 1000 on a device of 65536 bytes.
+-- The small volume byte by byte: what the maker leaves at the moment 1000 on a device of 65536 bytes that are 0.
 use Rattle.std.specs.Prelude.{ℕ, List, ◌∷◌, ◌++◌, drop, flat_map, replicate, take}
 use Rattle.qx_fields.specs.Number.{digits}
 use Rattle.qx_fields.specs.declared.order.Order.TheVariants.{Little}
@@ -56,6 +56,6 @@ changed_image changes = image_of (changed_block changes) first_bytes second_byte
 abbrev pub changed : List ℕ → List ℕ
 changed bytes = take 16 bytes ++ 0 ∷ drop 17 bytes
 
--- what the maker writes
+-- what the maker leaves
 abbrev pub small_image : List ℕ
 small_image = image_with first_bytes second_bytes

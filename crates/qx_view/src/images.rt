@@ -1,4 +1,4 @@
-//! Whole images, byte by byte: what the maker writes at the moment 1000 on a device of 65536 bytes, and what changed superblocks make of it.
+//! Whole images, byte by byte: what the maker leaves at the moment 1000 on a device of 65536 bytes that are 0, and what changed superblocks make of it.
 ghost use Rattle.std.specs.Prelude.{◌≡◌, [], ◌∷◌, length, take, Some};
 ghost use Rattle.qx_geom.specs.declared.area.Which.TheVariants as areas;
 ghost use Rattle.qx_super.specs.declared.choice.Pick.TheVariants as picks;
