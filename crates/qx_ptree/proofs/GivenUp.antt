@@ -1,13 +1,16 @@
 -- Blocks that were taken and are given back.
-use Rattle.std.proofs.Common.{◌≡◌, ℕ, inl, inr, [], ◌∷◌, List, sym, ◌∙◌, ap, subst, arith}
+use Rattle.std.proofs.Common.{◌≡◌, ℕ, inl, inr, [], ◌∷◌, ◌++◌, List, length-append, sym, ◌∙◌, ap, subst, arith}
 use Rattle.std.specs.Prelude.{true, false, ◌||◌, if◌then◌else◌}
+use Rattle.std.proofs.Math.Bool.{or_comm}
 use Rattle.std.proofs.lemmas.Bool.{or_cases, or_right, or_left}
+use Rattle.std.proofs.lemmas.List.Sorted.{IsPermutation-append_comm}
 use Rattle.qx_geom.specs.Lists.{is_in}
 use Rattle.qx_geom.proofs.Truths.{true_or_false}
-use Rattle.qx_geom.proofs.Members.{in_head, in_tail}
+use Rattle.qx_geom.proofs.Members.{in_head, in_tail, is_in-append}
 use Rattle.qx_blocks.specs.BlockState.{BlockState, with_free, with_shared, without}
 use Rattle.qx_ptree.specs.Takings.{Takes}
 use Rattle.qx_ptree.specs.WorkState.{given_up, without_all}
+use Rattle.qx_ptree.proofs.DistinctBlocks.{distinct_permuted}
 use Rattle.qx_ptree.proofs.ListedBlocks.{first_once, one_less, put-other}
 
 -- a block that the working tree alone holds gets free
@@ -50,10 +53,35 @@ Takes-freed b fresh m n f = record {
     | inr in' ↦ or_right (m.holdings.ready q) (is_in (b ∷ fresh) q) (in_tail b q fresh in')
   ]
 
--- the blocks that were taken are given back
-pub Takes-without_all : (fresh : List ℕ) (m n : BlockState) → Takes fresh m n → Takes [] m (without_all n fresh)
-Takes-without_all [] m n f = f
-Takes-without_all (b ∷ fresh) m n f =
-    let works : n.holdings.works b ≡ true = f.works b ∙ or_right (m.holdings.works b) (is_in (b ∷ fresh) b) (in_head b fresh) in
-    let private : n.holdings.private b ≡ true = f.private b ∙ or_right (m.holdings.private b) (is_in (b ∷ fresh) b) (in_head b fresh) in
-    Takes-without_all fresh m (given_up n b) (subst (Takes fresh m) (sym (given_up-private n b works private)) (Takes-freed b fresh m n f))
+-- those in front are given back
+front_back : (fs gs : List ℕ) (m n : BlockState) → Takes (fs ++ gs) m n → Takes gs m (without_all n fs)
+front_back [] gs m n f = f
+front_back (b ∷ fs) gs m n f =
+    let works : n.holdings.works b ≡ true = f.works b ∙ or_right (m.holdings.works b) (is_in (b ∷ (fs ++ gs)) b) (in_head b (fs ++ gs)) in
+    let private : n.holdings.private b ≡ true = f.private b ∙ or_right (m.holdings.private b) (is_in (b ∷ (fs ++ gs)) b) (in_head b (fs ++ gs)) in
+    front_back fs gs m (given_up n b) (subst (Takes (fs ++ gs) m) (sym (given_up-private n b works private)) (Takes-freed b (fs ++ gs) m n f))
+
+-- the order of what was taken doesn't matter
+takes_swap : (fs gs : List ℕ) (m n : BlockState) → Takes (fs ++ gs) m n → Takes (gs ++ fs) m n
+takes_swap fs gs m n t =
+    let same : (b : ℕ) → is_in (fs ++ gs) b ≡ is_in (gs ++ fs) b = λ b. is_in-append fs gs b ∙ or_comm (is_in fs b) (is_in gs b) ∙ sym (is_in-append gs fs b) in
+    record {
+      size = t.size;
+      count = t.count;
+      held = λ b. t.held b ∙ ap (λ x. m.holdings.held b || x) (same b);
+      works = λ b. t.works b ∙ ap (λ x. m.holdings.works b || x) (same b);
+      private = λ b. t.private b ∙ ap (λ x. m.holdings.private b || x) (same b);
+      ready = λ b h. t.ready b (ap (λ x. m.holdings.ready b || x) (same b) ∙ h);
+      unheld = λ b h. t.unheld b (same b ∙ h);
+      unused = λ b h. t.unused b (same b ∙ h);
+      distinct = distinct_permuted (fs ++ gs) (gs ++ fs) (IsPermutation-append_comm fs gs) t.distinct;
+      free = omega (arith, t.free, length-append fs gs, length-append gs fs);
+      ready_bytes = t.ready_bytes;
+      told_before = t.told_before;
+      told_bytes = t.told_bytes;
+      told_history = t.told_history;
+    }
+
+-- those that were taken last are given back
+pub last_back : (gs fs : List ℕ) (m n : BlockState) → Takes (gs ++ fs) m n → Takes gs m (without_all n fs)
+last_back gs fs m n t = front_back fs gs m n (takes_swap gs fs m n t)

@@ -1,5 +1,5 @@
 //! A change of a node that waits for its commit.
-ghost use Rattle.std.specs.Prelude.{◌≡◌, [], not};
+ghost use Rattle.std.specs.Prelude.{◌≡◌, ℕ, List, ◌++◌, not};
 ghost use Rattle.std.specs.List.{list_any};
 ghost use Rattle.qx_geom.specs.Lists.{is_in};
 ghost use Rattle.qx_ptree.specs.Takings.{LeavesOthers, Takes};
@@ -49,8 +49,9 @@ pub fn commit<B: Blocks>(node: &mut Root, blocks: &mut B, p: Prepared)
 pub fn abandon<B: Blocks>(blocks: &mut B, p: Prepared)
     ensures blocks { B.state blocks.new ≡ without_all (B.state blocks.old) p.work.fresh }
 
-    // Where nothing else came between, all is as it was before the change was prepared.
-    ensures back { (m : _) → Takes p.work.fresh m (B.state blocks.old) → Takes [] m (B.state blocks.new) }
+    // Where nothing but other changes was prepared since, all is as if this one never was.
+    ensures back { (m : _) (others : List ℕ) → Takes (others ++ p.work.fresh) m (B.state blocks.old)
+        → Takes others m (B.state blocks.new) }
 
     ensures rest { LeavesOthers p.work.fresh (B.state blocks.old) (B.state blocks.new) }
     ensures others { B.beside blocks.new ≡ B.beside blocks.old }

@@ -1,5 +1,5 @@
 //! What a change has done so far, and what is left to its commit.
-ghost use Rattle.std.specs.Prelude.{◌≡◌, ℕ, ◌+◌, ◌<◌, ◌↔◌, ◌∷◌, ◌++◌, [], true, false, length, slice_index, IfOk, IfErr, OnOk, OnErr, IsTrue};
+ghost use Rattle.std.specs.Prelude.{◌≡◌, ℕ, ◌+◌, ◌<◌, ◌↔◌, List, ◌∷◌, ◌++◌, [], true, false, length, slice_index, IfOk, IfErr, OnOk, OnErr, IsTrue};
 ghost use Rattle.std.specs.List.{list_any};
 ghost use Rattle.qx_geom.specs.Lists.{Distinct, is_in};
 ghost use Rattle.qx_blocks.specs.BlockState.{IsConsistent, with_bytes, with_fresh};
@@ -173,8 +173,8 @@ impl Work {
     // Gives back the blocks that were taken.
     pub(crate) fn give_back<B: Blocks>(&self, blocks: &mut B)
         ensures released { B.state blocks.new ≡ without_all (B.state blocks.old) self.now.fresh }
-        ensures back { (m : _) → Takes self.now.fresh m (B.state blocks.old)
-            → Takes [] m (B.state blocks.new) }
+        ensures back { (m : _) (others : List ℕ) → Takes (others ++ self.now.fresh) m (B.state blocks.old)
+            → Takes others m (B.state blocks.new) }
         ensures rest { LeavesOthers self.now.fresh (B.state blocks.old) (B.state blocks.new) }
         ensures others { B.beside blocks.new ≡ B.beside blocks.old }
     {

@@ -1,4 +1,4 @@
-use Rattle.std.proofs.Common.{subst}
+use Rattle.std.proofs.Common.{[], subst}
 use Rattle.qx_blocks.specs.BlockState.{BlockState}
 use Rattle.qx_ptree.specs.declared.plan.Plan.{Plan}
 use Rattle.qx_ptree.specs.PreparedNode.{Prepares}
@@ -20,5 +20,5 @@ returns-in-Ok-clause-ok g c =
 
 pub returns-in-Err-clause-err : goal.returns-in-Err-clause-err
 returns-in-Err-clause-err g c =
-    c.give_back.ensures.back (g.B.Blocks.state c.args.blocks.now)
+    c.give_back.ensures.back (g.B.Blocks.state c.args.blocks.now) []
     (added-takes (g.B.Blocks.state c.args.blocks.now) (g.B.Blocks.state c.prepare_distinct.new.blocks) c.new-work.result c.prepare_distinct.new.work c.new-work.ensures c.in-Err.ensures.err)

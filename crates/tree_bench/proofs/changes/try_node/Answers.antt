@@ -12,19 +12,19 @@ returns-in_err-p-clause-node g c =
 pub returns-clause-made : goal.returns-clause-made
 returns-clause-made g c = λ told.
     let n = g.B.Blocks.state c.checked_need.new.blocks in
-    let back = c.abandon.ensures.back n c.in_ok-p.ensures.ok.takes in
+    let back = c.abandon.ensures.back n [] c.in_ok-p.ensures.ok.takes in
     c.in_ok-takes.ensures.need (back.told_before told)
 
 pub returns-clause-back : goal.returns-clause-back
 returns-clause-back g c =
     let m = g.B.Blocks.state c.args.blocks.now in
     let n = g.B.Blocks.state c.checked_need.new.blocks in
-    Takes-after [] m n (g.B.Blocks.state c.abandon.new.blocks) c.checked_need.ensures.keeps (c.abandon.ensures.back n c.in_ok-p.ensures.ok.takes)
+    Takes-after [] m n (g.B.Blocks.state c.abandon.new.blocks) c.checked_need.ensures.keeps (c.abandon.ensures.back n [] c.in_ok-p.ensures.ok.takes)
 
 pub returns-clause-node : goal.returns-clause-node
 returns-clause-node g c =
     let n = g.B.Blocks.state c.checked_need.new.blocks in
-    node_taken c.args.order [] n (g.B.Blocks.state c.abandon.new.blocks) c.args.node.now c.in_ok-takes.ensures.consistent (c.abandon.ensures.back n c.in_ok-p.ensures.ok.takes) c.in_ok-takes.ensures.node
+    node_taken c.args.order [] n (g.B.Blocks.state c.abandon.new.blocks) c.args.node.now c.in_ok-takes.ensures.consistent (c.abandon.ensures.back n [] c.in_ok-p.ensures.ok.takes) c.in_ok-takes.ensures.node
 
 pub returns-in_err-p-clause-reason : goal.returns-in_err-p-clause-reason
 returns-in_err-p-clause-reason g c =
