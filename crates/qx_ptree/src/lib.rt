@@ -6,20 +6,22 @@
 //! It never writes a block that another tree holds (`what_a_commit_makes_of_blocks`, clause `shared`), and a commit never fails.
 #![tactic(auto)]
 
-mod building;
 mod change;
 mod fresh_blocks;
+mod giving_up;
 mod holes;
 mod laws;
 mod leaf_path;
+mod new_parts;
 mod part;
 mod plan;
+mod pointer_blocks;
 mod pointers;
 mod prepared;
+mod preparing;
 mod ready_path;
 mod work;
 
-pub use building::prepare;
 pub use change::Change;
 pub use fresh_blocks::need;
 pub use holes::first_hole;
@@ -31,4 +33,5 @@ pub use laws::{
 };
 pub use leaf_path::leaf;
 pub use prepared::{Prepared, abandon, apart, commit};
+pub use preparing::prepare;
 pub use ready_path::ready_leaf;

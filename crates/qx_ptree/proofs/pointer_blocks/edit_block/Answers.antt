@@ -4,7 +4,7 @@ use Rattle.qx_ptree.specs.Building.{pointer_bytes}
 use Rattle.qx_ptree.proofs.AddedWork.{adds_kept, adds_none}
 use Rattle.qx_ptree.proofs.PreparedBlocks.{at_err, edit_noted, whole_put, written_over}
 use Rattle.qx_ptree.proofs.TakenBlocks.{Takes-none, Takes-same}
-use Rattle.qx_ptree.proofs.building.edit_block.Goals as goal
+use Rattle.qx_ptree.proofs.pointer_blocks.edit_block.Goals as goal
 
 pub returns-in_err-bytes-clause-err : goal.returns-in_err-bytes-clause-err
 returns-in_err-bytes-clause-err g c =

@@ -2,7 +2,7 @@ use Rattle.std.proofs.Common.{◌≡◌, ◌+◌, ◌*◌, Ok}
 use Rattle.qx_geom.specs.Pointer.{per_block}
 use Rattle.qx_blocks.specs.Calls.{Keeps}
 use Rattle.qx_ptree.specs.Building.{GivesUp, LiesUnder}
-use Rattle.qx_ptree.proofs.building.+subtree.Given as goal
+use Rattle.qx_ptree.proofs.giving_up.+subtree.Given as goal
 
 -- a pointer by itself comes before a row of pointers of its level
 abbrev pub decreases-give_up_below : goal.decreases-give_up_below

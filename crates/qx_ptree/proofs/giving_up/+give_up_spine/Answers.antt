@@ -11,7 +11,7 @@ use Rattle.qx_ptree.proofs.PlannedPointers.{planned_lead}
 use Rattle.qx_ptree.proofs.PointerCounts.{words_bounds}
 use Rattle.qx_ptree.proofs.RowSlices.{later_at, later_of, of_later}
 use Rattle.qx_ptree.proofs.SpineParts.{spine_gives_last, spine_gives_more, spine_gives_none}
-use Rattle.qx_ptree.proofs.building.+give_up_spine.Goals as goal
+use Rattle.qx_ptree.proofs.giving_up.+give_up_spine.Goals as goal
 
 pub returns-then-pointer-clause-gone : goal.returns-then-pointer-clause-gone
 returns-then-pointer-clause-gone g t c =

@@ -13,7 +13,7 @@ use Rattle.qx_ptree.proofs.AddedWork.{adds_none}
 use Rattle.qx_ptree.proofs.TakenBlocks.{Takes-none}
 use Rattle.qx_ptree.proofs.WholeNeed.{new-levels}
 use Rattle.qx_ptree.proofs.WholeNodes.{later_pointer, outside_fails, underway_all, underway_fails, underway_more, underway_none}
-use Rattle.qx_ptree.proofs.building.prepare_tree.Goals as goal
+use Rattle.qx_ptree.proofs.preparing.prepare_tree.Goals as goal
 
 pub returns-in_err-old-clause-err : goal.returns-in_err-old-clause-err
 returns-in_err-old-clause-err g c =

@@ -8,7 +8,7 @@ use Rattle.qx_ptree.proofs.PartBounds.{top-reach}
 use Rattle.qx_ptree.proofs.PointersByPosition.{pointer_top}
 use Rattle.qx_ptree.proofs.RowSlices.{later_at, own_count, own_later}
 use Rattle.qx_ptree.proofs.SpineParts.{outside_gives, outside_gives_none}
-use Rattle.qx_ptree.proofs.building.give_up_outside.Goals as goal
+use Rattle.qx_ptree.proofs.giving_up.give_up_outside.Goals as goal
 
 pub returns-then-top-level-clause-gone : goal.returns-then-top-level-clause-gone
 returns-then-top-level-clause-gone g c =

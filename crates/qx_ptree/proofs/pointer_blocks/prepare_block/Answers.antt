@@ -3,7 +3,7 @@ use Rattle.qx_blocks.specs.BlockState.{Holdings}
 use Rattle.qx_ptree.proofs.AddedWork.{adds_none, adds_taken}
 use Rattle.qx_ptree.proofs.PreparedBlocks.{at_err, block_edited, block_lost, block_moved, block_never, block_same, block_taken, err_keeps, pointer_bytes-length}
 use Rattle.qx_ptree.proofs.TakenBlocks.{Takes-none, Takes-same}
-use Rattle.qx_ptree.proofs.building.prepare_block.Goals as goal
+use Rattle.qx_ptree.proofs.pointer_blocks.prepare_block.Goals as goal
 
 pub returns-in_err-give_up-clause-err : goal.returns-in_err-give_up-clause-err
 returns-in_err-give_up-clause-err g c =

@@ -3,7 +3,7 @@ use Rattle.std.specs.Prelude.{true, IsTrue}
 use Rattle.qx_blocks.specs.BlockState.{BlockState}
 use Rattle.qx_ptree.proofs.ListedBlocks.{put-at}
 use Rattle.qx_ptree.proofs.PreparedBlocks.{whole_put}
-use Rattle.qx_ptree.proofs.building.take_filled.Goals as goal
+use Rattle.qx_ptree.proofs.pointer_blocks.take_filled.Goals as goal
 
 pub returns-clause-bytes : goal.returns-clause-bytes
 returns-clause-bytes g c =

@@ -5,7 +5,7 @@ use Rattle.qx_ptree.specs.PreparedNode.{Prepares}
 use Rattle.qx_ptree.proofs.MadePlans.{made_plan}
 use Rattle.qx_ptree.proofs.PreparedNodes.{added-takes}
 use Rattle.qx_ptree.proofs.PreparedWhole.{whole-prepares, whole_of}
-use Rattle.qx_ptree.proofs.building.prepare.Goals as goal
+use Rattle.qx_ptree.proofs.preparing.prepare.Goals as goal
 
 pub prepare_distinct-requires : goal.prepare_distinct-requires
 prepare_distinct-requires g c = record { plan = made_plan (g.B.Blocks.state c.args.blocks.now) c.args.node.now c.args.order c.args.change.now c.new-plan.result c.new-plan.ensures c.requires.node c.requires.change }

@@ -1,6 +1,6 @@
 use Rattle.std.proofs.Common.{◌≡◌, length, IsTrue}
 use Rattle.qx_ptree.proofs.WholeNodes.{IsUnderway}
-use Rattle.qx_ptree.proofs.building.prepare_tree.Given as goal
+use Rattle.qx_ptree.proofs.preparing.prepare_tree.Given as goal
 
 -- the parts below the pointers so far are prepared
 abbrev pub invariant-loop-j : goal.invariant-loop-j

@@ -5,7 +5,7 @@ use Rattle.qx_ptree.specs.Parts.{part_of}
 use Rattle.qx_ptree.specs.Plans.{alteration_in}
 use Rattle.qx_ptree.specs.Reaching.{IsMarked, ReachesOnto}
 use Rattle.qx_ptree.proofs.SumsBelow.{any_up_to}
-use Rattle.qx_ptree.proofs.building.+prepare_at.Given as goal
+use Rattle.qx_ptree.proofs.new_parts.+prepare_at.Given as goal
 
 abbrev pub decreases-prepare_at : goal.decreases-prepare_at
 decreases-prepare_at g l = l.level

@@ -10,7 +10,7 @@ use Rattle.qx_ptree.proofs.PartBounds.{child-fits, child-reach, power-some}
 use Rattle.qx_ptree.proofs.PlannedPointers.{planned_lead}
 use Rattle.qx_ptree.proofs.PointerCounts.{words_bounds}
 use Rattle.qx_ptree.proofs.RowSlices.{of_part, part_of_read}
-use Rattle.qx_ptree.proofs.building.+subtree.Goals as goal
+use Rattle.qx_ptree.proofs.giving_up.+subtree.Goals as goal
 
 pub give_up_below-returns-then-pointer-clause-gone : goal.give_up_below-returns-then-pointer-clause-gone
 give_up_below-returns-then-pointer-clause-gone g t c =

@@ -2,7 +2,7 @@ use Rattle.std.proofs.Common.{◌∙◌, sym}
 use Rattle.qx_ptree.proofs.AddedWork.{adds_none, adds_taken}
 use Rattle.qx_ptree.proofs.PreparedBlocks.{at_err, err_same, leaf_moved, leaf_stays, leaf_taken}
 use Rattle.qx_ptree.proofs.TakenBlocks.{Takes-none, Takes-one}
-use Rattle.qx_ptree.proofs.building.written_leaf.Goals as goal
+use Rattle.qx_ptree.proofs.new_parts.written_leaf.Goals as goal
 
 pub returns-then-pointer-eq-ABSENT-clause-written : goal.returns-then-pointer-eq-ABSENT-clause-written
 returns-then-pointer-eq-ABSENT-clause-written g c =

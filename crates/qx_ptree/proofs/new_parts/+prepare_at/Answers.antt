@@ -25,8 +25,8 @@ use Rattle.qx_ptree.proofs.ReachedSteps.{marked_block, marked_empty, marked_more
 use Rattle.qx_ptree.proofs.RowSlices.{of_part}
 use Rattle.qx_ptree.proofs.SumsBelow.{any_up_to}
 use Rattle.qx_ptree.proofs.TakenBlocks.{Takes-none, Takes-same}
-use Rattle.qx_ptree.proofs.building.+prepare_at.Goals as goal
-use Rattle.qx_ptree.proofs.building.+prepare_at.Goals.{then-changed, else-changed, then-present, else-present}
+use Rattle.qx_ptree.proofs.new_parts.+prepare_at.Goals as goal
+use Rattle.qx_ptree.proofs.new_parts.+prepare_at.Goals.{then-changed, else-changed, then-present, else-present}
 
 -- ---- parts that fare alike
 

@@ -9,7 +9,7 @@ use Rattle.qx_ptree.proofs.PreparedBlocks.{at_err}
 use Rattle.qx_ptree.proofs.PreparedParts.{adds_given, fare_one, fare_part, fate_here, gone_onto, leaf_onto, quiet_onto, written_part}
 use Rattle.qx_ptree.proofs.ReachedSteps.{marked_none, onto_given_up, onto_leaf, onto_none, unwritten_leaf}
 use Rattle.qx_ptree.proofs.TakenBlocks.{Takes-none, Takes-same}
-use Rattle.qx_ptree.proofs.building.prepare_leaf.Goals as goal
+use Rattle.qx_ptree.proofs.new_parts.prepare_leaf.Goals as goal
 
 pub returns-in_err-give_up_below-in-Goes-clause-err : goal.returns-in_err-give_up_below-in-Goes-clause-err
 returns-in_err-give_up_below-in-Goes-clause-err g c =
