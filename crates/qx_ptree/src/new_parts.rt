@@ -1,5 +1,5 @@
 //! The part of a node at one position is prepared, from its leaves up.
-ghost use Rattle.std.specs.Prelude.{◌≡◌, ◌≤◌, ◌<◌, ◌+◌, ◌-◌, ◌*◌, true, false, IfOk, OnErr, IsTrue};
+ghost use Rattle.std.specs.Prelude.{◌≡◌, ◌≤◌, ◌<◌, ◌+◌, ◌-◌, ◌*◌, true, false, IfOk, OnErr, IsTrue, not, ◌==◌};
 ghost use Rattle.qx_geom.specs.Layout.{levels_for};
 ghost use Rattle.qx_geom.specs.Pointer.{absent};
 ghost use Rattle.qx_blocks.specs.BlockState.{IsConsistent};
@@ -31,6 +31,30 @@ pub(crate) struct Below {
     pub(crate) changed: bool,
     // Whether a leaf is present afterwards.
     pub(crate) present: bool,
+}
+
+impl Below {
+    // Nothing changes below a pointer.
+    fn unchanged(pointer: u32) -> Below
+        ensures { result ≡ record { pointer = pointer; changed = false; present = not (pointer == absent) } }
+    {
+        Below {
+            pointer,
+            changed: false,
+            present: pointer != ABSENT,
+        }
+    }
+
+    // All that was there below a pointer goes.
+    fn gone(pointer: u32) -> Below
+        ensures { result ≡ record { pointer = absent; changed = not (pointer == absent); present = false } }
+    {
+        Below {
+            pointer: ABSENT,
+            changed: pointer != ABSENT,
+            present: false,
+        }
+    }
 }
 
 // Prepares the part of the node from block `index` of a level on, to which `pointer` leads.
@@ -66,20 +90,10 @@ pub(crate) fn prepare_at<B: Blocks>(
 {
     let pointer = leading(blocks, pointer);
     match alike_fate(blocks, plan, level, index) {
-        Some(Fate::Stays) => {
-            return Ok(Below {
-                pointer,
-                changed: false,
-                present: pointer != ABSENT,
-            });
-        }
+        Some(Fate::Stays) => return Ok(Below::unchanged(pointer)),
         Some(Fate::Goes) => {
             give_up_below(blocks, plan, work, level, index, pointer)?;
-            return Ok(Below {
-                pointer: ABSENT,
-                changed: pointer != ABSENT,
-                present: false,
-            });
+            return Ok(Below::gone(pointer));
         }
         _ => {}
     }

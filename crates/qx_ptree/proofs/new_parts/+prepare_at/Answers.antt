@@ -34,22 +34,22 @@ pub returns-in-Some-Stays-clause-built : goal.returns-in-Some-Stays-clause-built
 returns-in-Some-Stays-clause-built g t c =
     let m : BlockState = g.B.Blocks.state c.args.blocks.now in
     let all : AllFare m.holdings.size c.args.plan.now.change Stays c.args.level c.args.index = λ i from to. c.in-Some-Stays.ensures.fate i from to ∙ c.in-Some-Stays.field-0-is in
-    quiet_onto m c.args.plan.now c.args.level c.args.index c.leading-pointer.result c.args.work.now c.leading-pointer.ensures.consistent c.requires.plan c.requires.level c.in-Some-Stays.ensures.level
-    (λ told. planned_lead m c.args.plan.now c.args.level c.args.index c.args.pointer c.leading-pointer.result (record { consistent = c.leading-pointer.ensures.consistent; met = c.requires.plan; told = told }) (c.requires.pointer told) c.leading-pointer.ensures.same) all
+    rw c.unchanged.ensures (quiet_onto m c.args.plan.now c.args.level c.args.index c.leading-pointer.result c.args.work.now c.leading-pointer.ensures.consistent c.requires.plan c.requires.level c.in-Some-Stays.ensures.level
+    (λ told. planned_lead m c.args.plan.now c.args.level c.args.index c.args.pointer c.leading-pointer.result (record { consistent = c.leading-pointer.ensures.consistent; met = c.requires.plan; told = told }) (c.requires.pointer told) c.leading-pointer.ensures.same) all)
 
 pub returns-in-Some-Stays-clause-changed : goal.returns-in-Some-Stays-clause-changed
 returns-in-Some-Stays-clause-changed g t c told =
     let m : BlockState = g.B.Blocks.state c.args.blocks.now in
     let all : AllFare m.holdings.size c.args.plan.now.change Stays c.args.level c.args.index = λ i from to. c.in-Some-Stays.ensures.fate i from to ∙ c.in-Some-Stays.field-0-is in
-    sym (ap (λ (x : Part). x.changed) (fare_part m c.args.plan.now Stays c.args.level c.args.index c.leading-pointer.result c.leading-pointer.ensures.consistent c.requires.plan (λ e. absurd (cc)) c.requires.level c.in-Some-Stays.ensures.level
-    (λ told. planned_lead m c.args.plan.now c.args.level c.args.index c.args.pointer c.leading-pointer.result (record { consistent = c.leading-pointer.ensures.consistent; met = c.requires.plan; told = told }) (c.requires.pointer told) c.leading-pointer.ensures.same) all told))
+    rw c.unchanged.ensures (sym (ap (λ (x : Part). x.changed) (fare_part m c.args.plan.now Stays c.args.level c.args.index c.leading-pointer.result c.leading-pointer.ensures.consistent c.requires.plan (λ e. absurd (cc)) c.requires.level c.in-Some-Stays.ensures.level
+    (λ told. planned_lead m c.args.plan.now c.args.level c.args.index c.args.pointer c.leading-pointer.result (record { consistent = c.leading-pointer.ensures.consistent; met = c.requires.plan; told = told }) (c.requires.pointer told) c.leading-pointer.ensures.same) all told)))
 
 pub returns-in-Some-Stays-clause-present : goal.returns-in-Some-Stays-clause-present
 returns-in-Some-Stays-clause-present g t c told =
     let m : BlockState = g.B.Blocks.state c.args.blocks.now in
     let all : AllFare m.holdings.size c.args.plan.now.change Stays c.args.level c.args.index = λ i from to. c.in-Some-Stays.ensures.fate i from to ∙ c.in-Some-Stays.field-0-is in
-    sym (ap (λ (x : Part). x.present) (fare_part m c.args.plan.now Stays c.args.level c.args.index c.leading-pointer.result c.leading-pointer.ensures.consistent c.requires.plan (λ e. absurd (cc)) c.requires.level c.in-Some-Stays.ensures.level
-    (λ told. planned_lead m c.args.plan.now c.args.level c.args.index c.args.pointer c.leading-pointer.result (record { consistent = c.leading-pointer.ensures.consistent; met = c.requires.plan; told = told }) (c.requires.pointer told) c.leading-pointer.ensures.same) all told))
+    rw c.unchanged.ensures (sym (ap (λ (x : Part). x.present) (fare_part m c.args.plan.now Stays c.args.level c.args.index c.leading-pointer.result c.leading-pointer.ensures.consistent c.requires.plan (λ e. absurd (cc)) c.requires.level c.in-Some-Stays.ensures.level
+    (λ told. planned_lead m c.args.plan.now c.args.level c.args.index c.args.pointer c.leading-pointer.result (record { consistent = c.leading-pointer.ensures.consistent; met = c.requires.plan; told = told }) (c.requires.pointer told) c.leading-pointer.ensures.same) all told)))
 
 pub give_up_below-requires-clause-pointer : goal.give_up_below-requires-clause-pointer
 give_up_below-requires-clause-pointer g t c told =
@@ -63,55 +63,55 @@ pub returns-in-Some-Goes-clause-built : goal.returns-in-Some-Goes-clause-built
 returns-in-Some-Goes-clause-built g t c =
     let m : BlockState = g.B.Blocks.state c.args.blocks.now in
     let all : AllFare m.holdings.size c.args.plan.now.change Goes c.args.level c.args.index = λ i from to. c.in-Some-Goes.ensures.fate i from to ∙ c.in-Some-Goes.field-0-is in
-    gone_onto m (g.B.Blocks.state c.give_up_below.new.blocks) c.args.plan.now c.args.level c.args.index c.args.work.now c.give_up_below.new.work c.leading-pointer.ensures.consistent c.requires.plan c.requires.level c.in-Some-Goes.ensures.level all
-    c.give_up_below.ensures.reads.keeps c.in_ok-give_up_below-in-Some-Goes.ensures.gone
+    rw c.gone.ensures (gone_onto m (g.B.Blocks.state c.give_up_below.new.blocks) c.args.plan.now c.args.level c.args.index c.args.work.now c.give_up_below.new.work c.leading-pointer.ensures.consistent c.requires.plan c.requires.level c.in-Some-Goes.ensures.level all
+    c.give_up_below.ensures.reads.keeps c.in_ok-give_up_below-in-Some-Goes.ensures.gone)
 
 pub returns-in-Some-Goes-clause-changed : goal.returns-in-Some-Goes-clause-changed
 returns-in-Some-Goes-clause-changed g t c told =
     let m : BlockState = g.B.Blocks.state c.args.blocks.now in
     let all : AllFare m.holdings.size c.args.plan.now.change Goes c.args.level c.args.index = λ i from to. c.in-Some-Goes.ensures.fate i from to ∙ c.in-Some-Goes.field-0-is in
-    sym (ap (λ (x : Part). x.changed) (fare_part m c.args.plan.now Goes c.args.level c.args.index c.leading-pointer.result c.leading-pointer.ensures.consistent c.requires.plan (λ e. absurd (cc)) c.requires.level c.in-Some-Goes.ensures.level
+    rw c.gone.ensures (sym (ap (λ (x : Part). x.changed) (fare_part m c.args.plan.now Goes c.args.level c.args.index c.leading-pointer.result c.leading-pointer.ensures.consistent c.requires.plan (λ e. absurd (cc)) c.requires.level c.in-Some-Goes.ensures.level
     (λ told. planned_lead m c.args.plan.now c.args.level c.args.index c.args.pointer c.leading-pointer.result (record { consistent = c.leading-pointer.ensures.consistent; met = c.requires.plan; told = told }) (c.requires.pointer told) c.leading-pointer.ensures.same) all
-    (told_before m (g.B.Blocks.state c.give_up_below.new.blocks) c.give_up_below.ensures.reads.keeps told)))
+    (told_before m (g.B.Blocks.state c.give_up_below.new.blocks) c.give_up_below.ensures.reads.keeps told))))
 
 pub returns-in-Some-Goes-clause-present : goal.returns-in-Some-Goes-clause-present
 returns-in-Some-Goes-clause-present g t c told =
     let m : BlockState = g.B.Blocks.state c.args.blocks.now in
     let all : AllFare m.holdings.size c.args.plan.now.change Goes c.args.level c.args.index = λ i from to. c.in-Some-Goes.ensures.fate i from to ∙ c.in-Some-Goes.field-0-is in
-    sym (ap (λ (x : Part). x.present) (fare_part m c.args.plan.now Goes c.args.level c.args.index c.leading-pointer.result c.leading-pointer.ensures.consistent c.requires.plan (λ e. absurd (cc)) c.requires.level c.in-Some-Goes.ensures.level
+    rw c.gone.ensures (sym (ap (λ (x : Part). x.present) (fare_part m c.args.plan.now Goes c.args.level c.args.index c.leading-pointer.result c.leading-pointer.ensures.consistent c.requires.plan (λ e. absurd (cc)) c.requires.level c.in-Some-Goes.ensures.level
     (λ told. planned_lead m c.args.plan.now c.args.level c.args.index c.args.pointer c.leading-pointer.result (record { consistent = c.leading-pointer.ensures.consistent; met = c.requires.plan; told = told }) (c.requires.pointer told) c.leading-pointer.ensures.same) all
-    (told_before m (g.B.Blocks.state c.give_up_below.new.blocks) c.give_up_below.ensures.reads.keeps told)))
+    (told_before m (g.B.Blocks.state c.give_up_below.new.blocks) c.give_up_below.ensures.reads.keeps told))))
 
 -- no written leaf stands there that would have to be reached
 
 pub returns-in-Some-Stays-clause-reaches : goal.returns-in-Some-Stays-clause-reaches
 returns-in-Some-Stays-clause-reaches g t c =
     let m : BlockState = g.B.Blocks.state c.args.blocks.now in
-    onto_none m m c.args.work.now c.args.work.now c.args.plan.now (one_block c.args.level c.args.index) _ (Takes-same m) refl
+    rw c.unchanged.ensures (onto_none m m c.args.work.now c.args.work.now c.args.plan.now (one_block c.args.level c.args.index) _ (Takes-same m) refl
     (unwritten_block m c.args.plan.now c.args.level c.args.index (leaves_after m.holdings.size c.args.plan.now.change) Stays (words_positive m.holdings.size c.leading-pointer.ensures.consistent.size)
-    (λ i low high. c.in-Some-Stays.ensures.fate i low high ∙ c.in-Some-Stays.field-0-is) (λ e. cc))
+    (λ i low high. c.in-Some-Stays.ensures.fate i low high ∙ c.in-Some-Stays.field-0-is) (λ e. cc)))
 
 pub returns-in-Some-Stays-clause-marked : goal.returns-in-Some-Stays-clause-marked
 returns-in-Some-Stays-clause-marked g t c =
     let m : BlockState = g.B.Blocks.state c.args.blocks.now in
-    marked_none m c.args.plan.now (one_block c.args.level c.args.index) _ _
+    rw c.unchanged.ensures (marked_none m c.args.plan.now (one_block c.args.level c.args.index) _ _
     (unwritten_block m c.args.plan.now c.args.level c.args.index (leaves_after m.holdings.size c.args.plan.now.change) Stays (words_positive m.holdings.size c.leading-pointer.ensures.consistent.size)
-    (λ i low high. c.in-Some-Stays.ensures.fate i low high ∙ c.in-Some-Stays.field-0-is) (λ e. cc))
+    (λ i low high. c.in-Some-Stays.ensures.fate i low high ∙ c.in-Some-Stays.field-0-is) (λ e. cc)))
 
 pub returns-in-Some-Goes-clause-reaches : goal.returns-in-Some-Goes-clause-reaches
 returns-in-Some-Goes-clause-reaches g t c =
     let m : BlockState = g.B.Blocks.state c.args.blocks.now in
-    onto_given_up m (g.B.Blocks.state c.give_up_below.new.blocks) (g.B.Blocks.state c.give_up_below.new.blocks) c.args.work.now c.give_up_below.new.work c.args.plan.now (LiesUnder (per_block m.holdings.size) (one_block c.args.level c.args.index)) _ (one_block c.args.level c.args.index) _
+    rw c.gone.ensures (onto_given_up m (g.B.Blocks.state c.give_up_below.new.blocks) (g.B.Blocks.state c.give_up_below.new.blocks) c.args.work.now c.give_up_below.new.work c.args.plan.now (LiesUnder (per_block m.holdings.size) (one_block c.args.level c.args.index)) _ (one_block c.args.level c.args.index) _
     (Takes-none m (g.B.Blocks.state c.give_up_below.new.blocks) c.in_ok-give_up_below-in-Some-Goes.ensures.reads.keeps) c.in_ok-give_up_below-in-Some-Goes.ensures.gone
     (unwritten_block m c.args.plan.now c.args.level c.args.index (leaves_after m.holdings.size c.args.plan.now.change) Goes (words_positive m.holdings.size c.leading-pointer.ensures.consistent.size)
-    (λ i low high. c.in-Some-Goes.ensures.fate i low high ∙ c.in-Some-Goes.field-0-is) (λ e. cc))
+    (λ i low high. c.in-Some-Goes.ensures.fate i low high ∙ c.in-Some-Goes.field-0-is) (λ e. cc)))
 
 pub returns-in-Some-Goes-clause-marked : goal.returns-in-Some-Goes-clause-marked
 returns-in-Some-Goes-clause-marked g t c =
     let m : BlockState = g.B.Blocks.state c.args.blocks.now in
-    marked_none m c.args.plan.now (one_block c.args.level c.args.index) _ _
+    rw c.gone.ensures (marked_none m c.args.plan.now (one_block c.args.level c.args.index) _ _
     (unwritten_block m c.args.plan.now c.args.level c.args.index (leaves_after m.holdings.size c.args.plan.now.change) Goes (words_positive m.holdings.size c.leading-pointer.ensures.consistent.size)
-    (λ i low high. c.in-Some-Goes.ensures.fate i low high ∙ c.in-Some-Goes.field-0-is) (λ e. cc))
+    (λ i low high. c.in-Some-Goes.ensures.fate i low high ∙ c.in-Some-Goes.field-0-is) (λ e. cc)))
 
 -- ---- a leaf, and the pointers below a block
 
