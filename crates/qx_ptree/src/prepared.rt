@@ -30,6 +30,15 @@ impl Model for Prepared {
     ghost view = { prepared_in };
 }
 
+impl Prepared {
+    /// The node as it was when the change was prepared, in whose place the commit puts the new one.
+    pub fn node(&self) -> Root
+        ensures { result ≡ self.now.node }
+    {
+        self.node
+    }
+}
+
 /// Puts the node that was prepared in place of the old one. The working tree's hold of the blocks that the change leaves out is given up.
 pub fn commit<B: Blocks>(node: &mut Root, blocks: &mut B, p: Prepared)
     requires node { node.old ≡ p.node }
