@@ -1,10 +1,11 @@
 -- The rows of a block of a directory: found by name, listed and written.
-use Rattle.std.specs.Prelude.{ℕ, Bool, false, not, List, Option, filter, find, length, map, option_map, unwrap_or, bytes_eq, nat_le, if◌then◌else◌}
+use Rattle.std.specs.Prelude.{◌≡◌, ℕ, ◌-◌, ◌<◌, ◌≤◌, Bool, false, not, List, Option, filter, find, length, map, option_map, unwrap_or, bytes_eq, nat_le, if◌then◌else◌}
+use Rattle.std.specs.List.{range_with_len}
 use Rattle.qx_fields.specs.declared.order.Order.{Order}
 use Rattle.qx_records.specs.NameRecord.{RawRecord}
 use Rattle.qx_records.specs.NameRecord as raws
 use Rattle.qx_records.specs.NameSum.{name_sum_of, sum_fits}
-use Rattle.qx_records.specs.Slots.{PlacedRecord, is_in_use, records_from, records_in}
+use Rattle.qx_records.specs.Slots.{PlacedRecord, is_in_use, record_at, records_in}
 use Rattle.qx_records.specs.WrittenNames.{short_bytes, long_bytes}
 use Rattle.qx_dir.specs.declared.block.Found.{Found}
 use Rattle.qx_dir.specs.declared.block.Found.TheVariants as founds
@@ -23,10 +24,18 @@ found_as place (raws.Short inode name) = founds.Name place inode
 found_as place (raws.Long inode number sum) = founds.Maybe place inode number
 found_as place (raws.Bad count) = founds.None
 
--- the first row from a record on that may have the name
-abbrev pub found_from : Order → List ℕ → ℕ → List ℕ → Found
-found_from order block from name =
-    unwrap_or (option_map (λ item. found_as item.place item.raw) (find (λ item. may_have name item.raw) (records_from order block from))) founds.None
+-- the records of a block from a place on and before another
+unfoldable pub records_between : Order → List ℕ → ℕ → ℕ → List PlacedRecord
+records_between order block from to = map (record_at order block) (range_with_len from (to - from))
+
+-- the first row among them that may have the name
+abbrev pub found_from : Order → List ℕ → ℕ → ℕ → List ℕ → Found
+found_from order block from to name =
+    unwrap_or (option_map (λ item. found_as item.place item.raw) (find (λ item. may_have name item.raw) (records_between order block from to))) founds.None
+
+-- none of the records from a place on and before another may have the name
+abbrev pub NoneMayHave : Order → List ℕ → ℕ → ℕ → List ℕ → Type 0
+NoneMayHave order block from to name = (k : ℕ) → from ≤ k → k < to → may_have name (record_at order block k).raw ≡ false
 
 -- the place of the first record that is not in use
 abbrev pub first_unused_in : Order → List ℕ → Option ℕ

@@ -34,7 +34,7 @@ pub enum Found {
 /// The first row of a block that has the name or may have it, from a record on. Places are counted in records of 32 bytes.
 pub fn find(block: &[u8], order: Order, from: usize, name: &[u8]) -> Found
     requires { length block.now % 32 ≡ 0 }
-    ensures { result ≡ found_from order block.now from name.now }
+    ensures { result ≡ found_from order block.now from (length block.now / 32) name.now }
 {
     let unsigned = name_sum(name);
     let signed = name_sum_signed(name);

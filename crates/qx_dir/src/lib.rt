@@ -7,9 +7,11 @@
 #![tactic(auto)]
 
 mod block;
+mod laws;
 mod places;
 
 pub use block::{Found, clear, find, first_unused, put, rows};
+pub use laws::what_is_found;
 pub use places::RowPlaces;
 
 #[cfg(test)]
