@@ -23,6 +23,7 @@ pub mod ActiveHalf
 pub mod NodesAlike
 pub mod WalkAlike
 pub mod ReasonsAlike
+pub mod RecordPlaces
 pub mod SoundLocality
 pub mod SoundPlaces
 pub mod SmallImages

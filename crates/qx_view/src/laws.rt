@@ -6,9 +6,10 @@ ghost use Rattle.qx_geom.specs.declared.geometry.Geometry.{Geometry};
 ghost use Rattle.qx_geom.specs.Layout.{IsPointerBlock, first_block};
 ghost use Rattle.qx_geom.specs.Lists.{Distinct};
 ghost use Rattle.qx_nodes.specs.BlockMap.{BlockMap, with_bytes};
-ghost use Rattle.qx_nodes.specs.Content.{HasSize, levels_fit};
+ghost use Rattle.qx_nodes.specs.Content.{HasSize, leaf_bytes, levels_fit};
 ghost use Rattle.qx_geom.specs.declared.root.Root.{Root};
 ghost use Rattle.qx_records.specs.NameRecord.{Unused};
+ghost use Rattle.qx_records.specs.Slots.{record_at};
 ghost use Rattle.qx_model.specs.Tree.{Reached, Tree, links_of};
 ghost use Rattle.qx_super.specs.declared.choice.Pick.TheVariants as picks;
 ghost use Rattle.qx_super.specs.Active.{active_area, active_super};
@@ -40,6 +41,15 @@ pub fn no_finding_means_a_tree()
 /// Where the roots have a tree, no test of the walk fails.
 pub fn a_tree_means_no_finding()
     ensures { (m : BlockMap) (r : Roots) (t : Tree) → IsTreeOf m r t → finding_of m r ≡ None }
+{}
+
+/// Where a block has whole records, those of a directory stand leaf by leaf: the record at a place of a leaf has the number that both
+/// give, and a record's number gives its leaf and its place there.
+pub fn the_records_of_a_leaf()
+    ensures placed { (m : BlockMap) (node : Root) (leaf place : ℕ) → m.size % 32 ≡ 0 → place < m.size / 32
+        → raw_of m node (leaf * (m.size / 32) + place) ≡ (record_at m.order (leaf_bytes m node leaf) place).raw }
+    ensures numbered { (m : BlockMap) (node : Root) (k : ℕ) → m.size % 32 ≡ 0 → 0 < m.size
+        → raw_of m node k ≡ (record_at m.order (leaf_bytes m node (k / (m.size / 32))) (k % (m.size / 32))).raw }
 {}
 
 /// A record of a directory in a leaf that isn't present is unused: it has no test, and names no inode and no long name.

@@ -29,9 +29,9 @@ pub use laws::{
     a_sound_image_has_a_place_for_each_inode, a_tree_means_no_finding,
     clean_images_are_the_sound_ones, damaged_images_have_a_finding, foreign_images_have_a_tree,
     held_blocks_decide_the_tree, no_finding_means_a_tree, records_in_holes_say_nothing,
-    roots_have_one_tree, the_active_half_is_held, the_records_of_present_leaves_say_all,
-    the_walk_comes_to_the_reached_inodes, the_walk_counts_the_links,
-    the_walk_meets_the_held_blocks, what_soundness_depends_on,
+    roots_have_one_tree, the_active_half_is_held, the_records_of_a_leaf,
+    the_records_of_present_leaves_say_all, the_walk_comes_to_the_reached_inodes,
+    the_walk_counts_the_links, the_walk_meets_the_held_blocks, what_soundness_depends_on,
 };
 pub use reasons::{Foreign, Reason};
 pub use volumes::{
