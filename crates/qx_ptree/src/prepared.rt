@@ -37,6 +37,13 @@ impl Prepared {
     {
         self.node
     }
+
+    /// The node that the commit puts in its place.
+    pub fn root(&self) -> Root
+        ensures { result ≡ self.now.root }
+    {
+        self.root
+    }
 }
 
 /// Puts the node that was prepared in place of the old one. The working tree's hold of the blocks that the change leaves out is given up.
