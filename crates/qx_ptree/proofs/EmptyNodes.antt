@@ -1,13 +1,16 @@
 -- A node of nothing.
-use Rattle.std.proofs.Common.{◌≡◌, ℕ, ◌+◌, ◌-◌, ◌/◌, ◌<◌, ◌≤◌, ap, arith}
+use Rattle.std.proofs.Common.{◌≡◌, ℕ, ◌+◌, ◌-◌, ◌/◌, ◌<◌, ◌≤◌, [], refl, ap, arith}
 use Rattle.std.specs.Prelude.{false, not, ◌||◌, ◌==◌}
 use Rattle.std.proofs.lemmas.Nat.{div_below}
 use Rattle.qx_fields.specs.declared.order.Order.{Order}
+use Rattle.qx_geom.specs.declared.root.Root.{Root}
 use Rattle.qx_geom.specs.Layout.{levels_for}
 use Rattle.qx_geom.specs.Pointer.{ceil_div}
 use Rattle.qx_geom.proofs.LeastLevels.{levels_for-le}
+use Rattle.qx_nodes.specs.BlockMap.{BlockMap}
+use Rattle.qx_nodes.specs.Visits.{visits_of}
 use Rattle.qx_blocks.specs.BlockState.{BlockState, IsBlockSize}
-use Rattle.qx_ptree.specs.Trees.{IsNode, IsRegular, IsWorking, empty_node}
+use Rattle.qx_ptree.specs.Trees.{AreApart, IsNode, IsRegular, IsWorking, empty_node}
 use Rattle.qx_ptree.proofs.PointerCounts.{size_positive}
 
 -- it has no leaf
@@ -31,6 +34,14 @@ empty-regular order m is = record {
 empty-works : (order : Order) (m : BlockState) → IsWorking order m empty_node
 empty-works order m v c = absurd (omega (arith, c.1))
 
--- so it can be changed
+-- it meets none
+pub empty-visits : (m : BlockMap) → visits_of m empty_node ≡ []
+empty-visits m = refl
+
+-- so it is apart from every node
+pub empty-apart : (order : Order) (m : BlockState) (node : Root) → AreApart order m empty_node node × AreApart order m node empty_node
+empty-apart order m node = (λ u v c d same. absurd (omega (arith, c.1)), λ u v c d same. absurd (omega (arith, d.1)))
+
+-- and it can be changed
 pub empty-node : (order : Order) (m : BlockState) → IsBlockSize m.holdings.size → IsNode order m empty_node
 empty-node order m is = record { levels = record { most = omega arith; reached = omega arith }; works = λ _. empty-works order m; regular = λ _. empty-regular order m is }

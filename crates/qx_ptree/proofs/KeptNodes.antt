@@ -167,6 +167,20 @@ node_taken order fresh m n node s t is = record {
   kept : IsTrue n.tells → KeepsNode order m n node
   kept told = kept_taken order fresh m n node s (is.works (t.told_before told)) told t
 
--- and so does the plan meet its conditions
+-- and after a change of blocks that it doesn't meet, which it must be known not to only where bytes are told
+pub node_others : (order : Order) (changed : List ℕ) (m n : BlockState) (node : Root) → IsConsistent m → LeavesOthers changed m n
+    → (IsTrue m.tells → (v : Visit) → Contains (visits_of (block_map order m) node) v → is_in changed v.block ≡ false) → IsNode order m node → IsNode order n node
+node_others order changed m n node s l out is = record {
+  levels = subst (λ size. HasLevels size node) (sym l.size) is.levels;
+  works = λ told. working_kept order m n node (kept told) (is.works (before told));
+  regular = λ told. regular_kept order m n node (kept told) s (is.works (before told)) (is.regular (before told));
+} where
+  before : IsTrue n.tells → IsTrue m.tells
+  before told = sym l.tells ∙ told
+
+  kept : IsTrue n.tells → KeepsNode order m n node
+  kept told = kept_others order changed m n node l (out (before told))
+
+-- and after a call that took blocks the plan meets its conditions
 pub plan_after : (f : List ℕ) (m n : BlockState) (plan : Plan) → IsConsistent m → IsPlan m plan → Takes f m n → IsPlan n plan
 plan_after f m n plan s met t = record { node = node_taken plan.order f m n plan.node s t met.node; change = subst (λ size. IsChange size plan.change) (sym t.size) met.change }

@@ -64,4 +64,5 @@ pub mod AlteredNodes
 pub mod SeveralChanges
 pub mod CommittedHoldings
 pub mod MadePlans
+pub mod ApartNodes
 pub mod CommittedNodes

@@ -1,8 +1,9 @@
 -- Changes that leave all blocks but some as they were.
-use Rattle.std.proofs.Common.{◌≡◌, ℕ, [], ◌∷◌, ◌++◌, List, refl, ◌∙◌}
+use Rattle.std.proofs.Common.{◌≡◌, ℕ, inl, inr, [], ◌∷◌, ◌++◌, List, refl, ◌∙◌}
 use Rattle.std.specs.Prelude.{true, false, Contains, if◌then◌else◌}
 use Rattle.qx_geom.specs.Lists.{is_in}
-use Rattle.qx_geom.proofs.Members.{Contains-cons, Contains-head, in_head, in_left, in_right, in_tail}
+use Rattle.qx_geom.proofs.Members.{Contains-cons, Contains-head, in_append_cases, in_head, in_left, in_right, in_tail}
+use Rattle.qx_geom.proofs.Truths.{not_so, true_or_false}
 use Rattle.qx_blocks.specs.BlockState.{BlockState, with_bytes, with_free, with_shared, without}
 use Rattle.qx_ptree.specs.Takings.{LeavesOthers}
 use Rattle.qx_ptree.specs.WorkState.{EditState, WorkState, all_blocks, given_up, with_edits, without_all}
@@ -49,6 +50,17 @@ LeavesOthers-within bs cs m n within f = record {
   ready = λ q out. f.ready q (out_within bs cs q (within q) out);
   bytes = λ q out. f.bytes q (out_within bs cs q (within q) out);
 }
+
+-- a change of other blocks after a change
+pub LeavesOthers-both : (bs cs : List ℕ) (m n o : BlockState) → LeavesOthers bs m n → LeavesOthers cs n o → LeavesOthers (bs ++ cs) m o
+LeavesOthers-both bs cs m n o f g =
+    LeavesOthers-then (bs ++ cs) m n o
+    (LeavesOthers-within bs (bs ++ cs) m n (in_left bs cs) f)
+    (LeavesOthers-within cs (bs ++ cs) n o (in_right bs cs) g)
+
+-- what is in neither list isn't in both together
+pub out_both : (bs cs : List ℕ) (q : ℕ) → is_in bs q ≡ false → is_in cs q ≡ false → is_in (bs ++ cs) q ≡ false
+out_both bs cs q first second = not_so (is_in (bs ++ cs) q) (λ t. elim (in_append_cases bs cs q t) [ inl h ↦ true_or_false (is_in bs q) h first | inr h ↦ true_or_false (is_in cs q) h second ])
 
 -- a block is written
 pub LeavesOthers-with_bytes : (bs : List ℕ) (m : BlockState) (b : ℕ) (bytes : List ℕ) → is_in bs b ≡ true → LeavesOthers bs m (with_bytes m b bytes)

@@ -1,12 +1,13 @@
 //! Laws of what leaves a node, changes that wait for their commits, nodes that were altered, and leaves that are ready.
-ghost use Rattle.std.specs.Prelude.{◌≡◌, ℕ, ◌+◌, ◌<◌, ◌&&◌, ◌++◌, true, false, not, count_by, length, List, [], IsTrue, Contains};
+ghost use Rattle.std.specs.Prelude.{◌≡◌, ℕ, ◌+◌, ◌<◌, ◌&&◌, ◌++◌, true, false, not, count_by, length, replicate, List, [], IsTrue, Contains};
 ghost use Rattle.std.specs.List.{list_any};
 ghost use Rattle.qx_fields.specs.declared.order.Order.{Order};
 ghost use Rattle.qx_geom.specs.declared.root.Root.{Root};
 ghost use Rattle.qx_geom.specs.Lists.{Distinct, is_in};
 ghost use Rattle.qx_geom.specs.Positions.{HasPosition};
+ghost use Rattle.qx_nodes.specs.BlockMap.{BlockMap};
 ghost use Rattle.qx_nodes.specs.Content.{content_of, leaf_bytes, piece_of};
-ghost use Rattle.qx_nodes.specs.Visits.{LiesBelow, Visit, visits_of};
+ghost use Rattle.qx_nodes.specs.Visits.{LiesBelow, Visit, present_of, visits_of};
 ghost use Rattle.qx_blocks.specs.BlockState.{BlockState, IsBlockSize, IsConsistent};
 ghost use Rattle.qx_blocks.specs.Calls.{Keeps};
 ghost use Rattle.qx_ptree.specs.declared.change.Change.{Change};
@@ -19,9 +20,11 @@ ghost use Rattle.qx_ptree.specs.Trees.{AreApart, IsNode, IsRegular, IsToldNode, 
 ghost use Rattle.qx_ptree.specs.WaitingChanges.{IsClearOf, IsWaiting};
 ghost use Rattle.qx_ptree.specs.WorkState.{CanCommit, Preparation, blocks_of, committed};
 
-/// The node of nothing can be asked and changed.
+/// The node of nothing can be asked and changed. It meets nothing, so it is apart from every node.
 pub fn an_empty_node_is_a_node()
-    ensures { (order : Order) (m : BlockState) → IsBlockSize m.holdings.size → IsNode order m empty_node }
+    ensures node { (order : Order) (m : BlockState) → IsBlockSize m.holdings.size → IsNode order m empty_node }
+    ensures visits { (m : BlockMap) → visits_of m empty_node ≡ [] }
+    ensures apart { (order : Order) (m : BlockState) (node : Root) → AreApart order m empty_node node × AreApart order m node empty_node }
 {}
 
 /// A node's positions are those at which something is met, each with its block.
@@ -30,6 +33,14 @@ pub fn a_nodes_positions_are_met()
         → Contains (visits_of (block_map order m) node) (record { level = k; index = j; block = pointer_at (block_map order m) node k j }) }
     ensures at { (order : Order) (m : BlockState) (node : Root) (v : Visit) → IsToldNode order m node → Contains (visits_of (block_map order m) node) v
         → HasPosition m.holdings.size (shape_in (block_map order m) node) v.level v.index × (v.block ≡ pointer_at (block_map order m) node v.level v.index) }
+{}
+
+/// A leaf that isn't present is 0, also past the size. Where bytes are told, each is as long as a block.
+pub fn the_leaves_of_a_node()
+    ensures long { (order : Order) (m : BlockState) (node : Root) (i : ℕ) → IsToldNode order m node → IsTrue m.tells
+        → length (leaf_bytes (block_map order m) node i) ≡ m.holdings.size }
+    ensures hole { (order : Order) (m : BlockState) (node : Root) (i : ℕ) → IsToldNode order m node
+        → is_in (present_of (block_map order m) node) i ≡ false → leaf_bytes (block_map order m) node i ≡ replicate m.holdings.size 0 }
 {}
 
 /// Where the blocks that a node meets stay, it meets the same, is as regular as it was, and has the same leaves and bytes; and a change makes the same of it, with the same need.
@@ -60,6 +71,19 @@ pub fn what_leaves_a_node()
     ensures taken { (order : Order) (fresh : List ℕ) (m n : BlockState) (node : Root) → IsConsistent m → IsWorking order m node → IsTrue n.tells → Takes fresh m n → KeepsNode order m n node }
     ensures others { (order : Order) (changed : List ℕ) (m n : BlockState) (node : Root) → LeavesOthers changed m n
         → ((v : Visit) → Contains (visits_of (block_map order m) node) v → is_in changed v.block ≡ false) → KeepsNode order m n node }
+
+    // Whether bytes are told or not.
+    ensures node_taken { (order : Order) (fresh : List ℕ) (m n : BlockState) (node : Root) → IsNode order m node → IsConsistent m → Takes fresh m n
+        → IsNode order n node }
+    ensures node_others { (order : Order) (changed : List ℕ) (m n : BlockState) (node : Root) → IsNode order m node → IsConsistent m → LeavesOthers changed m n
+        → (IsTrue m.tells → (v : Visit) → Contains (visits_of (block_map order m) node) v → is_in changed v.block ≡ false) → IsNode order n node }
+{}
+
+/// Nodes that are apart are apart while the blocks of both stay.
+pub fn nodes_stay_apart()
+    ensures kept { (order : Order) (m n : BlockState) (a b : Root) → KeepsNode order m n a → KeepsNode order m n b → AreApart order m a b
+        → AreApart order n a b }
+    ensures back { (order : Order) (m : BlockState) (a b : Root) → AreApart order m a b → AreApart order m b a }
 {}
 
 /// A change that waits for its commit can be committed after another was prepared, abandoned or committed, if the two are apart.
@@ -94,6 +118,15 @@ pub fn what_leaves_written_leaves()
 pub fn what_is_taken_in_turn()
     ensures then { (first second : List ℕ) (m n o : BlockState) → Takes first m n → Takes second n o → Takes (first ++ second) m o }
     ensures none { (m n : BlockState) → Keeps m n → Takes [] m n }
+{}
+
+/// Changes of blocks, one after another.
+pub fn what_is_changed_in_turn()
+    ensures then { (first second : List ℕ) (m n o : BlockState) → LeavesOthers first m n → LeavesOthers second n o
+        → LeavesOthers (first ++ second) m o }
+    ensures more { (changed more : List ℕ) (m n : BlockState) → LeavesOthers changed m n
+        → ((b : ℕ) → is_in changed b ≡ true → is_in more b ≡ true) → LeavesOthers more m n }
+    ensures clear { (first second : List ℕ) (b : ℕ) → is_in first b ≡ false → is_in second b ≡ false → is_in (first ++ second) b ≡ false }
 {}
 
 /// A change that was prepared waits for its commit while blocks are taken and others change; seen from the blocks before all of them as well.

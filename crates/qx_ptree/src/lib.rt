@@ -27,8 +27,9 @@ pub use fresh_blocks::need;
 pub use holes::first_hole;
 pub use laws::{
     a_node_stays_with_its_blocks, a_nodes_positions_are_met, a_prepared_change_waits,
-    an_empty_node_is_a_node, changes_of_apart_nodes_are_apart, what_a_commit_makes_of_blocks,
-    what_an_altered_node_meets, what_is_taken_in_turn, what_leaves_a_node,
+    an_empty_node_is_a_node, changes_of_apart_nodes_are_apart, nodes_stay_apart,
+    the_leaves_of_a_node, what_a_commit_makes_of_blocks, what_an_altered_node_meets,
+    what_is_changed_in_turn, what_is_taken_in_turn, what_leaves_a_node,
     what_leaves_a_waiting_change, what_leaves_an_altered_node, what_leaves_written_leaves,
 };
 pub use leaf_path::leaf;
