@@ -34,7 +34,7 @@ module _ (order : Order) (old m : BlockState) (p : Preparation) (told : IsToldNo
   told_after = record { consistent = s; sixteen = sixteen; levels = subst (λ z. HasLevels z p.root) (sym a.blocksize) (levels-reach old.holdings.size p.root p.change told.consistent.size change a.size a.levels); works = a.works; regular = a.regular }
 
   -- which has the positions that the change makes
-  place_same : (k j : ℕ) → has_position m.holdings.size (shape_in (block_map order m) p.root) k j ≡ has_position old.holdings.size made.new k j
+  pub place_same : (k j : ℕ) → has_position m.holdings.size (shape_in (block_map order m) p.root) k j ≡ has_position old.holdings.size made.new k j
   place_same k j = λ i. has_position (a.blocksize i) (record { levels = a.levels i; present = a.present i }) k j
 
   -- so what is met there stands at one of them

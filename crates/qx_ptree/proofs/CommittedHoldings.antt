@@ -198,7 +198,11 @@ module _ (m : BlockState) (p : Preparation) where
     pub holds-held : (b : ℕ) → (committed m p).holdings.held b ≡ (m.holdings.held b && not (m.holdings.private b && is_in p.work.released b))
     holds-held b = (gives_all edited p.work.released b alone).held ∙ (λ i. (edits_holdings m p.work.edits i).held b && not ((edits_holdings m p.work.edits i).private b && is_in p.work.released b))
 
-    -- which keep their bytes
+    -- none holds one that is given up and was private
+    pub holds-frees : (b : ℕ) → is_in p.work.released b ≡ true → m.holdings.private b ≡ true → (committed m p).holdings.held b ≡ false
+    holds-frees b gone alone = holds-held b ∙ (λ i. m.holdings.held b && not (alone i && gone i)) ∙ sym (kept-none (m.holdings.held b))
+
+    -- the shared ones keep their bytes
     pub holds-shared : (b : ℕ) → CanCommit m p → m.holdings.private b ≡ false → (committed m p).bytes b ≡ m.bytes b
     holds-shared b can shared =
         (gives_all edited p.work.released b alone).bytes (ap (λ h. h.private b) (edits_holdings m p.work.edits) ∙ shared)

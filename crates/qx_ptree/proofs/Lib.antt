@@ -64,5 +64,6 @@ pub mod AlteredNodes
 pub mod SeveralChanges
 pub mod CommittedHoldings
 pub mod MadePlans
+pub mod StandingBlocks
 pub mod ApartNodes
 pub mod CommittedNodes

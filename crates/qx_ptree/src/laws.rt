@@ -1,5 +1,5 @@
 //! Laws of what leaves a node, changes that wait for their commits, nodes that were altered, and leaves that are ready.
-ghost use Rattle.std.specs.Prelude.{◌≡◌, ℕ, ◌+◌, ◌<◌, ◌&&◌, ◌++◌, true, false, not, count_by, length, replicate, List, [], IsTrue, Contains};
+ghost use Rattle.std.specs.Prelude.{◌≡◌, ℕ, ◌+◌, ◌<◌, ◌↔◌, ◌&&◌, ◌++◌, true, false, not, count_by, length, replicate, List, [], IsTrue, Contains};
 ghost use Rattle.std.specs.List.{list_any};
 ghost use Rattle.qx_fields.specs.declared.order.Order.{Order};
 ghost use Rattle.qx_geom.specs.declared.root.Root.{Root};
@@ -12,7 +12,7 @@ ghost use Rattle.qx_blocks.specs.BlockState.{BlockState, IsBlockSize, IsConsiste
 ghost use Rattle.qx_blocks.specs.Calls.{Keeps};
 ghost use Rattle.qx_ptree.specs.declared.change.Change.{Change};
 ghost use Rattle.qx_ptree.specs.Alterations.{alteration_of, fresh_count, shape_in};
-ghost use Rattle.qx_ptree.specs.Altered.{Alters, AsLeft, IsPrepared, prepared_alteration, takes_fresh};
+ghost use Rattle.qx_ptree.specs.Altered.{Alters, AsLeft, IsPrepared, keeps_block, prepared_alteration, takes_fresh};
 ghost use Rattle.qx_ptree.specs.KeptNodes.{KeepsNode};
 ghost use Rattle.qx_ptree.specs.ReadyLeaves.{IsReadyApart, IsWrittenBy, OwnAsLeft, StandIn};
 ghost use Rattle.qx_ptree.specs.Takings.{LeavesOthers, Takes};
@@ -165,6 +165,25 @@ pub fn what_an_altered_node_meets()
         → takes_fresh (prepared_alteration order old p) v.level v.index ≡ true → is_in p.work.fresh v.block ≡ true }
     ensures stays { (order : Order) (old now m : BlockState) (p : Preparation) (v : Visit) → IsWaiting order old now p → IsConsistent m → Alters order old p m → Contains (visits_of (block_map order m) p.root) v
         → takes_fresh (prepared_alteration order old p) v.level v.index ≡ false → Contains (visits_of (block_map order old) p.node) v }
+
+    // And each block that the change took, or that a position keeps, is met there. What it gives up is what was met before and is no more.
+    ensures takes { (order : Order) (old now m : BlockState) (p : Preparation) (b : ℕ) → IsWaiting order old now p → IsConsistent m → Alters order old p m
+        → is_in p.work.fresh b ≡ true
+        → (v : Visit) × Contains (visits_of (block_map order m) p.root) v × (v.block ≡ b) × (takes_fresh (prepared_alteration order old p) v.level v.index ≡ true) }
+    ensures keeps { (order : Order) (old now m : BlockState) (p : Preparation) (v : Visit) → IsWaiting order old now p → IsConsistent m → Alters order old p m
+        → Contains (visits_of (block_map order old) p.node) v
+        → keeps_block (prepared_alteration order old p) v.level v.index ≡ true → Contains (visits_of (block_map order m) p.root) v }
+    ensures left { (order : Order) (old now m : BlockState) (p : Preparation) (b : ℕ) → IsWaiting order old now p → IsConsistent m → Alters order old p m
+        → is_in p.work.released b ≡ true ↔ ((v : Visit) × Contains (visits_of (block_map order old) p.node) v × (v.block ≡ b)
+        × ((u : Visit) → Contains (visits_of (block_map order m) p.root) u → ¬ (u.block ≡ b))) }
+
+    // A block that it took is the working tree's alone, and another is so where it was.
+    ensures private { (order : Order) (old now m : BlockState) (p : Preparation) (v : Visit) → IsWaiting order old now p → IsConsistent m → Alters order old p m
+        → Contains (visits_of (block_map order m) p.root) v
+        → takes_fresh (prepared_alteration order old p) v.level v.index ≡ true → IsTrue (m.holdings.private v.block) }
+    ensures as_private { (order : Order) (old now m : BlockState) (p : Preparation) (v : Visit) → IsWaiting order old now p → IsConsistent m → Alters order old p m
+        → Contains (visits_of (block_map order m) p.root) v
+        → takes_fresh (prepared_alteration order old p) v.level v.index ≡ false → m.holdings.private v.block ≡ old.holdings.private v.block }
 {}
 
 /// A node that a change altered stays so while others change, and is apart from what it was apart from.
@@ -186,6 +205,8 @@ pub fn what_a_commit_makes_of_blocks()
     ensures private { (m : BlockState) (p : Preparation) (b : ℕ) → IsConsistent m → (committed m p).holdings.private b ≡ (m.holdings.private b && not (is_in p.work.released b)) }
     ensures free { (m : BlockState) (p : Preparation) → IsConsistent m → Distinct p.work.released
         → (committed m p).holdings.free ≡ m.holdings.free + count_by (λ b. m.holdings.private b) p.work.released }
+    ensures frees { (m : BlockState) (p : Preparation) (b : ℕ) → IsConsistent m → is_in p.work.released b ≡ true → m.holdings.private b ≡ true
+        → (committed m p).holdings.held b ≡ false }
 
     // No block that another tree holds is written.
     ensures shared { (m : BlockState) (p : Preparation) (b : ℕ) → IsConsistent m → CanCommit m p → m.holdings.private b ≡ false → (committed m p).bytes b ≡ m.bytes b }
