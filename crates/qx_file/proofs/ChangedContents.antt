@@ -28,10 +28,12 @@ use Rattle.qx_blocks.specs.BlockState.{BlockState, IsConsistent}
 use Rattle.qx_ptree.specs.Alterations.{Alteration}
 use Rattle.qx_ptree.specs.Altered.{Alters, prepared_alteration}
 use Rattle.qx_ptree.specs.Fates.{leaves_after, written_by}
+use Rattle.qx_ptree.specs.KeptNodes.{KeepsNode}
 use Rattle.qx_ptree.specs.Trees.{IsToldNode, block_map}
 use Rattle.qx_ptree.specs.WaitingChanges.{IsWaiting}
 use Rattle.qx_ptree.specs.WorkState.{Preparation}
 use Rattle.qx_ptree.proofs.FirstHoles.{past_lacks}
+use Rattle.qx_ptree.proofs.KeptNodes.{all_leaves_kept}
 use Rattle.qx_ptree.proofs.NodePositions.{told_hole, told_lies}
 use Rattle.qx_ptree.proofs.PointerCounts.{size_positive}
 use Rattle.qx_ptree.proofs.SeveralChanges.{altered_told}
@@ -115,6 +117,13 @@ tail_hole order m node is out k past low =
         let least : n / b ≤ k / b = div_rises n k b past in
         omega (arith, low, most, least)
 
+-- and it has none while its blocks stay
+pub tail_kept : (order : Order) (m n : BlockState) (node : Root) → IsConsistent n → KeepsNode order m n node → IsToldNode order m node → HasNoTail order m node → HasNoTail order n node
+tail_kept order m n node s kept is none k past low =
+    (λ i. slice_index (leaf_bytes (block_map order n) node (k / kept.size i)) (k % kept.size i))
+    ∙ ap (λ (l : List ℕ). slice_index l (k % m.holdings.size)) (all_leaves_kept order m n node s kept is (k / m.holdings.size))
+    ∙ none k past (subst (λ z. k < leaves_end z node.size) kept.size low)
+
 -- ---- the change
 
 module _ (order : Order) (old now m : BlockState) (p : Preparation) (w : IsWaiting order old now p) (s : IsConsistent m) (a : Alters order old p m) where
@@ -127,7 +136,7 @@ module _ (order : Order) (old now m : BlockState) (p : Preparation) (w : IsWaiti
   some = size_positive old.holdings.size w.node.consistent.size
 
   -- a leaf that is present has the bytes that it had, and another is 0
-  leaf_after : (i : ℕ) → i < ceil_div p.root.size old.holdings.size → (t : Bool) → is_in made.new.present i ≡ t → leaf_bytes (block_map order m) p.root i ≡ (if t then leaf_bytes (block_map order old) p.node i else replicate old.holdings.size 0)
+  pub leaf_after : (i : ℕ) → i < ceil_div p.root.size old.holdings.size → (t : Bool) → is_in made.new.present i ≡ t → leaf_bytes (block_map order m) p.root i ≡ (if t then leaf_bytes (block_map order old) p.node i else replicate old.holdings.size 0)
   leaf_after i low true there = a.bytes i (subst (λ x. HasPosition old.holdings.size made.new 0 x) (above_leaf old.holdings.size i) (has_above old.holdings.size made.new 0 i (omega arith) there))
   leaf_after i low false none =
       absent_bytes (block_map order m) p.root i (told_lies order m p.root (altered_told order old now m p w s a) i (subst (λ z. i < ceil_div p.root.size z) (sym a.blocksize) low))

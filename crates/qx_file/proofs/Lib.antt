@@ -4,5 +4,6 @@ pub mod PartBytes
 pub mod ReadBytes
 pub mod PlannedChanges
 pub mod PutContent
+pub mod PutNodes
 pub mod CommittedFiles
 pub mod ChangedContents

@@ -27,11 +27,11 @@ use Rattle.qx_file.proofs.PartBytes.{ends_past}
 -- ---- one leaf
 
 -- how many bytes of a range lie in a leaf
-part_long : (bytes : List ℕ) (a z : ℕ) → length (slice_range bytes a z) ≡ min (z - a) (length bytes - a)
+pub part_long : (bytes : List ℕ) (a z : ℕ) → length (slice_range bytes a z) ≡ min (z - a) (length bytes - a)
 part_long bytes a z = omega (arith, length-take (z - a) (drop a bytes), length-drop a bytes)
 
 -- a leaf's end
-leaf_end : (i size : ℕ) → (i + 1) * size ≡ i * size + size
+pub leaf_end : (i size : ℕ) → (i + 1) * size ≡ i * size + size
 leaf_end i size = grind arith
 
 -- a byte of the range stands in its leaf
@@ -66,7 +66,7 @@ below_end : (i j size : ℕ) → i * size < j * size → i < j
 below_end i j size h = grind arith
 
 -- a leaf has one of the bytes, or none
-decide : (size at count i : ℕ) → (HasByte size at count i) ⊎ (HasByte size at count i → ⊥)
+pub decide : (size at count i : ℕ) → (HasByte size at count i) ⊎ (HasByte size at count i → ⊥)
 decide size at count i = elim (cases_lt i (at / size)) [
   | inl early ↦ inr (λ h. omega (arith, h.first))
   | inr first ↦ elim (cases_lt (i * size) (at + count)) [
@@ -115,7 +115,7 @@ module _ (order : Order) (m n : BlockState) (node : Root) (at : ℕ) (bytes : Li
   leaf_is i has = leaf_at_end order m node node.levels 0 i c (omega arith) (leaf_ready order m node Has i can.ready has)
 
   -- and met
-  leaf_met : (i : ℕ) → Has i → Contains (visits_of before node) (record { level = 0; index = i; block = leaf_block order m node i })
+  pub leaf_met : (i : ℕ) → Has i → Contains (visits_of before node) (record { level = 0; index = i; block = leaf_block order m node i })
   leaf_met i has = subst (λ x. IsMet i before.count x (visits_of before node)) (leaf_is i has) (node_leaf_met before node i (lies i (has_low i has)))
 
   -- pointer blocks stay

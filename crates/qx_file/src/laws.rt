@@ -13,14 +13,15 @@ ghost use Rattle.qx_blocks.specs.BlockState.{BlockState, IsBlockSize, IsConsiste
 ghost use Rattle.qx_ptree.specs.declared.change.Change.{Change};
 ghost use Rattle.qx_ptree.specs.Altered.{Alters, prepared_alteration};
 ghost use Rattle.qx_ptree.specs.Fates.{IsChange, is_written};
+ghost use Rattle.qx_ptree.specs.KeptNodes.{KeepsNode};
 ghost use Rattle.qx_ptree.specs.ReadyLeaves.{IsReadyApart, IsWrittenBy, StandIn};
 ghost use Rattle.qx_ptree.specs.Takings.{LeavesOthers};
-ghost use Rattle.qx_ptree.specs.Trees.{HasLevels, IsRegular, IsToldNode, IsWorking, block_map};
+ghost use Rattle.qx_ptree.specs.Trees.{HasLevels, IsNode, IsRegular, IsToldNode, IsWorking, block_map, pointer_at};
 ghost use Rattle.qx_ptree.specs.WaitingChanges.{IsWaiting};
 ghost use Rattle.qx_ptree.specs.WorkState.{Preparation};
 ghost use Rattle.qx_file.specs.Contents.{HasNoTail};
 ghost use Rattle.qx_file.specs.FilePlans.{cuts_leaf, greatest_end, past_end, size_change, write_change};
-ghost use Rattle.qx_file.specs.Puts.{CanPut, HasByte, MeetsOnce, Puts, leaves_end, with_part};
+ghost use Rattle.qx_file.specs.Puts.{CanPut, HasByte, MeetsOnce, Puts, leaf_block, leaves_end, with_part};
 
 /// A planned write is a change that can be prepared. It writes the leaves that have one of the bytes, and these lie below its size.
 pub fn a_planned_write_writes_its_leaves()
@@ -85,8 +86,14 @@ pub fn what_is_put_leaves_the_pointers()
         → IsWorking order m node → IsWorking order n node }
     ensures regular { (order : Order) (m n : BlockState) (node : Root) (at : ℕ) (bytes : List ℕ) → IsConsistent m → CanPut order m node at (length bytes) → Puts order node at bytes m n
         → IsWorking order m node → IsRegular order m node → IsRegular order n node }
+    ensures told { (order : Order) (m n : BlockState) (node : Root) (at : ℕ) (bytes : List ℕ) → IsToldNode order m node → CanPut order m node at (length bytes)
+        → Puts order node at bytes m n → IsToldNode order n node }
+    ensures pointers { (order : Order) (m n : BlockState) (node : Root) (at k j : ℕ) (bytes : List ℕ) → IsToldNode order m node → CanPut order m node at (length bytes)
+        → Puts order node at bytes m n → pointer_at (block_map order n) node k j ≡ pointer_at (block_map order m) node k j }
 
-    // Also where bytes aren't told, the leaves that a change wrote stay ready apart.
+    // Also where bytes aren't told, it can be asked and changed, and the leaves that a change wrote stay ready apart.
+    ensures node { (order : Order) (m n : BlockState) (node : Root) (at : ℕ) (bytes : List ℕ) → IsConsistent m → CanPut order m node at (length bytes)
+        → Puts order node at bytes m n → IsNode order m node → IsNode order n node }
     ensures ready { (order : Order) (m n : BlockState) (node : Root) (c : Change) (at : ℕ) (bytes : List ℕ) → ((i : ℕ) → HasByte m.holdings.size at (length bytes) i → is_written c i ≡ true) → Puts order node at bytes m n
         → IsReadyApart order m node (IsWrittenBy c) → IsReadyApart order n node (IsWrittenBy c) }
     ensures stand { (order : Order) (m n : BlockState) (node : Root) (c : Change) (at : ℕ) (bytes blocks : List ℕ) → ((i : ℕ) → HasByte m.holdings.size at (length bytes) i → is_written c i ≡ true) → Puts order node at bytes m n
@@ -99,10 +106,14 @@ pub fn bytes_in_written_leaves_can_be_put()
         → ((i : ℕ) → HasByte m.holdings.size at count i → is_written c i ≡ true) → IsReadyApart order m node (IsWrittenBy c) → CanPut order m node at count }
 {}
 
-/// Bytes that are put into leaves that a change wrote change none but that change's blocks.
+/// Bytes that are put change none but the blocks of their leaves, so in leaves that a change wrote none but that change's. No block that another tree holds is written.
 pub fn what_is_put_leaves_others()
-    ensures { (order : Order) (m n : BlockState) (node : Root) (c : Change) (at : ℕ) (bytes blocks : List ℕ) → ((i : ℕ) → HasByte m.holdings.size at (length bytes) i → is_written c i ≡ true)
+    ensures others { (order : Order) (m n : BlockState) (node : Root) (c : Change) (at : ℕ) (bytes blocks : List ℕ) → ((i : ℕ) → HasByte m.holdings.size at (length bytes) i → is_written c i ≡ true)
         → StandIn order m node (IsWrittenBy c) blocks → Puts order node at bytes m n → LeavesOthers blocks m n }
+    ensures written { (order : Order) (m n : BlockState) (node : Root) (at : ℕ) (bytes blocks : List ℕ)
+        → ((i : ℕ) → HasByte m.holdings.size at (length bytes) i → is_in blocks (leaf_block order m node i) ≡ true) → Puts order node at bytes m n → LeavesOthers blocks m n }
+    ensures shared { (order : Order) (m n : BlockState) (node : Root) (at b : ℕ) (bytes : List ℕ) → IsConsistent m → CanPut order m node at (length bytes)
+        → Puts order node at bytes m n → m.holdings.private b ≡ false → n.bytes b ≡ m.bytes b }
 {}
 
 /// Once a change is committed, a present leaf of the file has the bytes that it had, and another one is 0. So where no leaf is taken out, the file holds what it held, cut or filled up with 0.
@@ -128,4 +139,8 @@ pub fn a_file_without_a_tail()
     // As in the leaf in which a file is cut.
     ensures zeros { (order : Order) (m n : BlockState) (node : Root) → IsToldNode order m node → CanPut order m node node.size (past_end m.holdings.size node.size)
         → Puts order node node.size (replicate (past_end m.holdings.size node.size) 0) m n → HasNoTail order n node }
+
+    // And while the file's blocks stay.
+    ensures kept { (order : Order) (m n : BlockState) (node : Root) → IsConsistent n → KeepsNode order m n node → IsToldNode order m node → HasNoTail order m node
+        → HasNoTail order n node }
 {}

@@ -1,4 +1,4 @@
-use Rattle.qx_file.proofs.ChangedContents.{no_tail, tail_after, tail_hole, tail_put, tail_whole, tail_zeros}
+use Rattle.qx_file.proofs.ChangedContents.{no_tail, tail_after, tail_hole, tail_kept, tail_put, tail_whole, tail_zeros}
 use Rattle.qx_file.proofs.laws.a_file_without_a_tail.Goals as goal
 
 pub returns-clause-past : goal.returns-clause-past
@@ -18,3 +18,6 @@ returns-clause-put c = λ order m n node at bytes is can puts room none. tail_pu
 
 pub returns-clause-zeros : goal.returns-clause-zeros
 returns-clause-zeros c = tail_zeros
+
+pub returns-clause-kept : goal.returns-clause-kept
+returns-clause-kept c = tail_kept

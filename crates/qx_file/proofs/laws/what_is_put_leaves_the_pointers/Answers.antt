@@ -1,6 +1,8 @@
 use Rattle.qx_ptree.specs.ReadyLeaves.{IsWrittenBy}
+use Rattle.qx_file.proofs.CommittedFiles.{put_node}
 use Rattle.qx_file.proofs.KeptPointers.{ready_kept, stand_kept}
 use Rattle.qx_file.proofs.PutContent.{regular_after, visits_after, works_after}
+use Rattle.qx_file.proofs.PutNodes.{pointers_put, told_put}
 use Rattle.qx_file.proofs.laws.what_is_put_leaves_the_pointers.Goals as goal
 
 pub returns-clause-visits : goal.returns-clause-visits
@@ -11,6 +13,15 @@ returns-clause-works c = λ order m n node at bytes s can once puts works. works
 
 pub returns-clause-regular : goal.returns-clause-regular
 returns-clause-regular c = λ order m n node at bytes s can puts works regular. regular_after order m n node at bytes s can regular.apart puts works regular
+
+pub returns-clause-told : goal.returns-clause-told
+returns-clause-told c = told_put
+
+pub returns-clause-pointers : goal.returns-clause-pointers
+returns-clause-pointers c = λ order m n node at k j bytes is can puts. pointers_put order m n node at bytes is can puts k j
+
+pub returns-clause-node : goal.returns-clause-node
+returns-clause-node c = put_node
 
 pub returns-clause-ready : goal.returns-clause-ready
 returns-clause-ready c = λ order m n node change at bytes within puts ready.
