@@ -7,12 +7,13 @@ use Rattle.qx_fields.specs.declared.order.Order.{Order}
 use Rattle.qx_geom.specs.declared.root.Root.{Root}
 use Rattle.qx_geom.specs.Pointer.{per_block, reach}
 use Rattle.qx_geom.proofs.BlockSizes.{block_size-bounds}
+use Rattle.qx_geom.specs.Room.{greatest_end}
 use Rattle.qx_blocks.specs.BlockState.{BlockState, IsBlockSize, IsConsistent}
 use Rattle.qx_ptree.specs.declared.change.Change.{Change}
 use Rattle.qx_ptree.specs.Fates.{IsChange}
 use Rattle.qx_ptree.specs.ReadyLeaves.{IsReadyApart, IsWrittenBy}
 use Rattle.qx_ptree.specs.Trees.{HasLevels, IsNode}
-use Rattle.qx_file.specs.FilePlans.{cuts_leaf, greatest_end, size_change, write_change}
+use Rattle.qx_file.specs.FilePlans.{cuts_leaf, size_change, write_change}
 use Rattle.qx_file.specs.Puts.{CanPut, Puts}
 use Rattle.qx_file.proofs.PlannedChanges.{cut_can, is_size, write_can, write_is_change}
 use Rattle.qx_file.proofs.PutContent.{regular_after, works_after}

@@ -9,13 +9,14 @@ use Rattle.qx_geom.specs.Layout.{is_block_size}
 use Rattle.qx_geom.specs.Pointer.{ceil_div, per_block, reach}
 use Rattle.qx_geom.proofs.LevelCounts.{ceil_div-is}
 use Rattle.qx_geom.proofs.BlockSizes.{block_size-bounds}
+use Rattle.qx_geom.specs.Room.{greatest_end}
 use Rattle.qx_fields.specs.declared.order.Order.{Order}
 use Rattle.qx_blocks.specs.BlockState.{BlockState, IsBlockSize}
 use Rattle.qx_ptree.specs.ReadyLeaves.{IsReadyApart, IsWrittenBy}
 use Rattle.qx_ptree.specs.Trees.{HasLevels}
 use Rattle.qx_ptree.specs.declared.change.Change.{Change}
 use Rattle.qx_ptree.specs.Fates.{IsChange, is_written}
-use Rattle.qx_file.specs.FilePlans.{cuts_leaf, greatest_end, past_end, size_change, write_change, writes_range}
+use Rattle.qx_file.specs.FilePlans.{cuts_leaf, past_end, size_change, write_change, writes_range}
 use Rattle.qx_file.specs.Puts.{CanPut, HasByte, leaves_end}
 use Rattle.qx_file.proofs.KeptPointers.{ready_fewer}
 

@@ -1,11 +1,7 @@
 -- Which leaves of a file a write or a new size writes.
-use Rattle.std.specs.Prelude.{ℕ, ◌+◌, ◌-◌, ◌/◌, ◌%◌, ◌^◌, Bool, not, ◌&&◌, max, None, nat_lt, ◌==◌, if◌then◌else◌}
+use Rattle.std.specs.Prelude.{ℕ, ◌+◌, ◌-◌, ◌/◌, ◌%◌, Bool, not, ◌&&◌, max, None, nat_lt, ◌==◌, if◌then◌else◌}
 use Rattle.qx_geom.specs.declared.root.Root.{Root}
 use Rattle.qx_ptree.specs.declared.change.Change.{Change}
-
--- the greatest end of a file, in bytes
-abbrev pub greatest_end : ℕ
-greatest_end = 2 ^ 48
 
 -- a change to this size that writes some leaves
 abbrev pub writes_range : ℕ → ℕ → ℕ → Change

@@ -7,6 +7,7 @@ ghost use Rattle.qx_geom.specs.declared.root.Root.{Root};
 ghost use Rattle.qx_geom.specs.Layout.{is_block_size};
 ghost use Rattle.qx_geom.specs.Lists.{is_in};
 ghost use Rattle.qx_geom.specs.Pointer.{ceil_div, reach};
+ghost use Rattle.qx_geom.specs.Room.{greatest_end};
 ghost use Rattle.qx_nodes.specs.Content.{byte_of, content_of, leaf_bytes};
 ghost use Rattle.qx_nodes.specs.Visits.{present_of, visits_of};
 ghost use Rattle.qx_blocks.specs.BlockState.{BlockState, IsBlockSize, IsConsistent};
@@ -20,7 +21,7 @@ ghost use Rattle.qx_ptree.specs.Trees.{HasLevels, IsNode, IsRegular, IsToldNode,
 ghost use Rattle.qx_ptree.specs.WaitingChanges.{IsWaiting};
 ghost use Rattle.qx_ptree.specs.WorkState.{Preparation};
 ghost use Rattle.qx_file.specs.Contents.{HasNoTail};
-ghost use Rattle.qx_file.specs.FilePlans.{cuts_leaf, greatest_end, past_end, size_change, write_change};
+ghost use Rattle.qx_file.specs.FilePlans.{cuts_leaf, past_end, size_change, write_change};
 ghost use Rattle.qx_file.specs.Puts.{CanPut, HasByte, MeetsOnce, Puts, leaf_block, leaves_end, with_part};
 
 /// A planned write is a change that can be prepared. It writes the leaves that have one of the bytes, and these lie below its size.

@@ -1,7 +1,8 @@
 //! Which leaves a write or a new size writes.
 ghost use Rattle.std.specs.Prelude.{◌≡◌, ◌<◌, ◌≤◌, ◌+◌, None, Ok, IsErr, IsTrue};
 ghost use Rattle.qx_geom.specs.Layout.{is_block_size};
-ghost use Rattle.qx_file.specs.FilePlans.{greatest_end, size_change, write_change};
+ghost use Rattle.qx_geom.specs.Room.{greatest_end};
+ghost use Rattle.qx_file.specs.FilePlans.{size_change, write_change};
 
 use qx_geom::Root;
 use qx_ptree::Change;

@@ -4,3 +4,4 @@ pub mod Pointer
 pub mod Layout
 pub mod Positions
 pub mod Touch
+pub mod Room

@@ -7,3 +7,4 @@ pub mod Visits
 pub mod Content
 pub mod LongNames
 pub mod ForeignNodes
+pub mod NodeContents

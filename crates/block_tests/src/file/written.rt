@@ -1,11 +1,11 @@
 //! Files that are written and cut as operations do it, and then read.
 ghost use Rattle.std.specs.Prelude.{◌≡◌, ◌+◌, ◌<◌, ◌≤◌, length, IfOk, OnOk, IsTrue, vec_len};
+ghost use Rattle.qx_geom.specs.Room.{greatest_end};
 ghost use Rattle.qx_blocks.specs.BlockState.{IsConsistent};
 ghost use Rattle.qx_blocks.specs.Calls.{Keeps};
 ghost use Rattle.qx_ptree.specs.Fates.{IsChange};
 ghost use Rattle.qx_ptree.specs.ReadyLeaves.{IsReadyApart, IsWrittenBy};
 ghost use Rattle.qx_ptree.specs.Trees.{HasLevels, IsNode, IsWorking};
-ghost use Rattle.qx_file.specs.FilePlans.{greatest_end};
 
 use qx_blocks::{Blocks, MemBlocks, Stop};
 use qx_fields::Order;

@@ -1,7 +1,8 @@
 use Rattle.std.proofs.Common.{◌≡◌, ◌∙◌, ◌+◌, ◌≤◌, ◌<◌, inl, inr, length, rules, sym}
 use Rattle.std.proofs.lemmas.Bool.{cases_lt}
+use Rattle.qx_geom.specs.Room.{greatest_end}
 use Rattle.qx_blocks.specs.BlockState.{BlockState}
-use Rattle.qx_file.specs.FilePlans.{greatest_end, write_change}
+use Rattle.qx_file.specs.FilePlans.{write_change}
 use Rattle.qx_file.specs.Puts.{CanPut}
 use Rattle.qx_file.proofs.CommittedFiles.{plan_can, put_node}
 use Rattle.tree_bench.proofs.WrittenNodes.{some_bytes}
