@@ -1,5 +1,5 @@
 //! Blocks with rows of every kind, in both orders of bytes.
-ghost use Rattle.std.specs.Prelude.{◌≡◌, ◌%◌, length};
+ghost use Rattle.std.specs.Prelude.{◌≡◌, ◌%◌, ◌<◌, ◌≤◌, length};
 
 use crate::{Found, clear, find, first_unused, put, rows};
 use qx_fields::Order;
@@ -100,51 +100,49 @@ fn the_root_directory_of_a_small_volume_has_two_rows(rt: HostRuntime) -> Result<
     Ok(())
 }
 
+// A name's row is put at place 3, and its record cleared again: what is found from the block's start and from behind the row,
+// what is found from the start afterwards, and the first record that is then unused.
+fn found_of_a_put(order: Order, name: &[u8]) -> (Found, Found, Found, Option<usize>)
+    requires named { 0 < length name.now }
+    requires short { length name.now ≤ 510 }
+{
+    let mut block = [0xFF; 512];
+    put(&mut block, order, 3, 77, name, 0);
+    let found = find(&block, order, 0, name);
+    let behind = find(&block, order, 4, name);
+    clear(&mut block, 3);
+    let cleared = find(&block, order, 0, name);
+    (found, behind, cleared, first_unused(&block, order))
+}
+
 #[test]
 fn a_name_is_found_where_it_was_put(rt: HostRuntime) {
     let mut letters = [0; 510];
     for (place, byte) in letters.iter_mut().enumerate() {
         *byte = b'a' + (place % 26) as u8;
     }
-    let cases = [
-        (1, false),
-        (27, false),
-        (28, true),
-        (255, true),
-        (510, true),
-    ];
-    for (length, is_long) in cases {
+    let short = Found::Name {
+        place: 3,
+        inode: 77,
+    };
+    let long = Found::Maybe {
+        place: 3,
+        inode: 77,
+        number: 0,
+    };
+    for (length, found) in [
+        (1, short),
+        (27, short),
+        (28, long),
+        (255, long),
+        (510, long),
+    ] {
         let name = &letters[..length];
         // Each name has 1 to 510 bytes, but a table's elements have no length that is known in a loop.
         assert!(rt; !name.is_empty() && name.len() <= 510);
+        let want = (found, Found::None, Found::None, Some(3));
         for order in [Order::Little, Order::Big] {
-            let mut block = [0xFF; 512];
-            put(&mut block, order, 3, 77, name, 0);
-            let want = if is_long {
-                Found::Maybe {
-                    place: 3,
-                    inode: 77,
-                    number: 0,
-                }
-            } else {
-                Found::Name {
-                    place: 3,
-                    inode: 77,
-                }
-            };
-            assert_eq!(rt; find(&block, order, 0, name), want, "{length}, {order:?}");
-            assert_eq!(rt;
-                find(&block, order, 4, name),
-                Found::None,
-                "{length}, {order:?}"
-            );
-            clear(&mut block, 3);
-            assert_eq!(rt;
-                find(&block, order, 0, name),
-                Found::None,
-                "{length}, {order:?}"
-            );
-            assert_eq!(rt; first_unused(&block, order), Some(3), "{length}, {order:?}");
+            assert_eq!(rt; found_of_a_put(order, name), want, "{length}, {order:?}");
         }
     }
 }
