@@ -1,6 +1,6 @@
 -- The tests above the inodes: the root nodes' in their order, and those of inode 1.
 use Rattle.std.proofs.Common.{◌≡◌, ℕ, zero, suc, ◌+◌, ◌≤◌, List, [], ◌∷◌, ◌++◌, refl, sym, ◌∙◌, ap, subst, arith, add-one}
-use Rattle.std.specs.Prelude.{Bool, true, false, Some, None, Result, Ok, Err, flat_map, replicate, if◌then◌else◌}
+use Rattle.std.specs.Prelude.{Bool, true, false, Some, None, Option, Result, Ok, Err, flat_map, replicate, if◌then◌else◌}
 use Rattle.std.specs.List.{find, range_with_len}
 use Rattle.std.proofs.lemmas.List.{append-nil}
 use Rattle.qx_blockset.specs.Members.{Members, has}
@@ -12,6 +12,7 @@ use Rattle.qx_nodes.specs.Content.{levels_fit, root_fits}
 use Rattle.qx_nodes.specs.Visits.{visits_of}
 use Rattle.qx_geom.proofs.Truths.{and_left}
 use Rattle.qx_view.specs.declared.findings.Code.TheVariants as codes
+use Rattle.qx_view.specs.declared.findings.Finding.{Finding}
 use Rattle.qx_view.proofs.PassingTests.{NodePasses, Passing, node_passes, passing_parts, passing_tested}
 use Rattle.qx_view.specs.Images.{Roots, has_inode, inode_places}
 use Rattle.qx_nodes.specs.ForeignNodes.{is_foreign_node}
@@ -45,6 +46,10 @@ pub root_leaves : {T : Type 0} (m : BlockMap) (node : Root) (x : T) (a b : Membe
 root_leaves m node x a b met leaves marks tests is =
     let passes : NodePasses m node (root_fits m node) = node_passes m 0 node (root_fits m node) (record { met = met; none = tests.answer met marks }) in
     record { are = is; fits = and_left (levels_fit m node) _ passes.fit; undamaged = passes.undamaged }
+
+-- a halt that is at no finding goes with any tests
+pub goes_lacks : {U : Type 0} (tests : List Test) (halt : Halt) (a b : Members) → ((f : Option Finding) → HaltsAt f halt) → GoesThrough {T = U} tests (Err halt) a b
+goes_lacks tests halt a b any = record { answer = λ met marks. any (first_failing met tests); marks = λ met marks. tt }
 
 module _ (m : BlockMap) (r : Roots) where
   -- the tests of the Inode tree, of the Longfile, of further root nodes, and of all inodes

@@ -1,5 +1,5 @@
 -- How often the walk of a whole tree reads: no more than an eighth as often as there are bytes in its blocks.
-use Rattle.std.proofs.Common.{◌≡◌, ℕ, ◌+◌, ◌*◌, ◌/◌, ◌%◌, ◌-◌, ◌^◌, ◌≤◌, inl, inr, List, length, replicate, sym, ◌∙◌, ap, subst, arith}
+use Rattle.std.proofs.Common.{◌≡◌, ℕ, ◌+◌, ◌*◌, ◌/◌, ◌%◌, ◌-◌, ◌^◌, ◌≤◌, inl, inr, replicate, sym, ◌∙◌, ap, subst, arith}
 use Rattle.std.specs.Prelude.{Result, Ok, Err, false, nat_lt, if◌then◌else◌}
 use Rattle.std.proofs.lemmas.Bool.{cases_lt, le-ltb, lt-ltb}
 use Rattle.std.proofs.lemmas.List.{length-replicate}
@@ -10,9 +10,7 @@ use Rattle.qx_geom.specs.declared.root.Root.{Root}
 use Rattle.qx_outside.specs.Outside.{Outside}
 use Rattle.qx_pointers.specs.declared.halt.Halt.{Halt}
 use Rattle.qx_pointers.specs.declared.halt.Halt.TheVariants as halts
-use Rattle.qx_pointers.specs.declared.node.LeafPlace.{LeafPlace}
 use Rattle.qx_pointers.specs.declared.source.Shape.{Shape}
-use Rattle.qx_pointers.specs.Marks.{Follows}
 use Rattle.qx_pointers.specs.Shown.{Looks}
 use Rattle.qx_view.specs.Images.{places_in}
 use Rattle.qx_walk.proofs.LeafRecords.{block_sizes}
@@ -88,23 +86,15 @@ taken_few places l is =
 pub first_limit : (shape : Shape) (a b : Members) → a ≡ replicate shape.count false → limit_of b ≡ limit_of a → limit_of b ≡ shape.count
 first_limit shape a b none limit = limit ∙ ap limit_of none ∙ length-replicate shape.count false
 
--- and its leaves are no more than they
-pub first_leaves : (a b : Members) (kept leaves : List LeafPlace) → leaves ≡ kept → length kept + count_of a ≤ 0 + count_of b → length leaves ≤ count_of b
-first_leaves a b kept leaves is few = omega (arith, few, ap (λ (l : List LeafPlace). length l) is)
-
 module _ (shape : Shape) where
-  -- the first node was walked
-  pub read_first : {T : Type 0} (a b : Members) (ls kept : List LeafPlace) (h i : Outside) (r : Result T Halt) → Follows a b ls kept h i r → Looks halts.Device 0 (count_of b + 0) h i r
-  read_first a b ls kept h i r p = looks_as halts.Device _ _ _ _ h i r r (omega arith) (λ e. e) (λ e. e) p.looks
-
-  -- leaves were read again
-  pub read_leaves : {T U : Type 0} (b : Members) (leaves : ℕ) (h i o : Outside) (x : T) (r : Result U Halt) → Looks halts.Device 0 (count_of b + 0) h i (Ok x) → Looks halts.Device 0 leaves i o r → Looks halts.Device 0 (count_of b + leaves) h o r
-  read_leaves b leaves h i o x r p q = looks_then halts.Device _ _ _ _ _ _ h i o x r (omega arith) p q
+  -- the first node was walked, and leaves of it were read again
+  pub read_first : {T : Type 0} (a b : Members) (h i : Outside) (r : Result T Halt) → Looks halts.Device (2 * count_of a) (2 * count_of b) h i r → Looks halts.Device 0 (count_of b + count_of b) h i r
+  read_first a b h i r p = looks_as halts.Device _ _ _ _ h i r r (omega arith) (λ e. e) (λ e. e) p
 
   -- a further node was walked
-  pub read_next : {T U : Type 0} (b c : Members) (leaves : ℕ) (ls kept : List LeafPlace) (h i o : Outside) (x : T) (r : Result U Halt) → Looks halts.Device 0 (count_of b + leaves) h i (Ok x) → Follows b c ls kept i o r
+  pub read_next : {T U : Type 0} (b c : Members) (leaves : ℕ) (h i o : Outside) (x : T) (r : Result U Halt) → Looks halts.Device 0 (count_of b + leaves) h i (Ok x) → Looks halts.Device (count_of b) (count_of c) i o r
       → Looks halts.Device 0 (count_of c + leaves) h o r
-  read_next b c leaves ls kept h i o x r p q = looks_then halts.Device _ _ _ _ _ _ h i o x r (omega arith) p q.looks
+  read_next b c leaves h i o x r p q = looks_then halts.Device _ _ _ _ _ _ h i o x r (omega arith) p q
 
   -- the walk halts at it
   pub read_halts : {T U : Type 0} (b : Members) (leaves : ℕ) (h i : Outside) (halt : Halt) → limit_of b ≡ shape.count → leaves ≤ count_of b
