@@ -2,8 +2,6 @@
 use Rattle.std.proofs.Common.{◌≡◌, ℕ, ◌+◌, ◌*◌, ◌/◌, ◌%◌, ◌<◌, ◌≤◌, inl, inr, List, refl, ap, sym, ◌∙◌, subst, arith}
 use Rattle.std.specs.Prelude.{Bool, true, false, ◌||◌, ◌==◌, if◌then◌else◌, IsTrue, nat_le, slice_index, slice_range}
 use Rattle.std.proofs.lemmas.Bool.{cases_eq, eqb-false, ne_eqb}
-use Rattle.std.proofs.lemmas.Nat.{div-add-mod', div-mul-add, mod-mul-add}
-use Rattle.std.proofs.Math.Nat.{add-mul, mul_assoc}
 use Rattle.qx_fields.specs.Number.{field}
 use Rattle.qx_fields.specs.declared.order.Order.{Order}
 use Rattle.qx_geom.specs.Layout.{is_block_size}
@@ -13,34 +11,17 @@ use Rattle.qx_nodes.specs.Content.{bytes_at_leaf}
 use Rattle.qx_nodes.specs.Leaves.{Block, leaf_of}
 use Rattle.qx_records.specs.NameRecord.{Bad, Long, RawRecord, Short, Unused, raw_in}
 use Rattle.qx_view.specs.Images.{block_at_leaf, raw_of, record_block}
-use Rattle.qx_view.proofs.TreeLocality.{record_below}
+use Rattle.qx_view.proofs.RecordPlaces.{leaf_is, placed_record}
 use Rattle.qx_walk.specs.Rows.{NamesSome}
 
--- where record j of leaf i begins
-begins_at : (size i j : ℕ) → size % 32 ≡ 0 → (i * (size / 32) + j) * 32 ≡ i * size + j * 32
-begins_at size i j whole =
-    let parts : size ≡ size / 32 * 32 = omega (arith, div-add-mod' size 32) in
-    add-mul (i * (size / 32)) j 32 ∙ ap (λ z. z + j * 32) (mul_assoc i (size / 32) 32 ∙ ap (λ z. i * z) (sym parts))
-
 module _ (m : BlockMap) (node : Root) (i b j : ℕ) (whole : m.size % 32 ≡ 0) (low : j < m.size / 32) (at : leaf_of m node i ≡ Block b) where
-  -- its leaf
-  leaf_is : (i * (m.size / 32) + j) * 32 / m.size ≡ i
-  leaf_is = ap (λ z. z / m.size) (begins_at m.size i j whole) ∙ div-mul-add i m.size (j * 32) (record_below j m.size low)
-
-  -- its place in the leaf
-  place_is : (i * (m.size / 32) + j) * 32 % m.size ≡ j * 32
-  place_is = ap (λ z. z % m.size) (begins_at m.size i j whole) ∙ mod-mul-add i m.size (j * 32) (record_below j m.size low)
-
   -- what it says
   pub leaf_record : raw_of m node (i * (m.size / 32) + j) ≡ raw_in m.order (slice_range (m.bytes b) (j * 32) (j * 32 + 32))
-  leaf_record =
-      ap (λ z. raw_in m.order (slice_range (bytes_at_leaf m (leaf_of m node z)) ((i * (m.size / 32) + j) * 32 % m.size) ((i * (m.size / 32) + j) * 32 % m.size + 32))) leaf_is
-      ∙ ap (λ z. raw_in m.order (slice_range (bytes_at_leaf m z) ((i * (m.size / 32) + j) * 32 % m.size) ((i * (m.size / 32) + j) * 32 % m.size + 32))) at
-      ∙ ap (λ z. raw_in m.order (slice_range (m.bytes b) z (z + 32))) place_is
+  leaf_record = placed_record m node i j whole low ∙ ap (λ z. raw_in m.order (slice_range (bytes_at_leaf m z) (j * 32) (j * 32 + 32))) at
 
   -- the block that holds it
   pub leaf_block : record_block m node (i * (m.size / 32) + j) ≡ b
-  leaf_block = ap (λ z. block_at_leaf (leaf_of m node z)) leaf_is ∙ ap block_at_leaf at
+  leaf_block = ap (λ z. block_at_leaf (leaf_of m node z)) (leaf_is m.size i j whole low) ∙ ap block_at_leaf at
 
 -- ---- bytes of a block
 
