@@ -34,78 +34,84 @@ fn first_unused(block: &[u8], order: Order) -> Option<usize>
     None
 }
 
-/// Bytes by the format's table of a directory record, packed by a script that has no part of qx_records.
+/// Bytes by the format's table of a directory record, packed by a script that has no part of qx_records: what the record is, its order,
+/// its first bytes, the letters behind these, and what it says. The bytes behind the letters are 0.
+const RECORDS: &str = "
+no inode | little | 00.00.00.00.03 | abc | unused
+no length | little | 04.03.02.01.00 | abc | unused
+one letter | big | 01.02.03.04.01 | abc | short 01020304 a
+the longest short name | little | 04.03.02.01.1B | abcdefghijklmnopqrstuvwxyza | short 01020304 abcdefghijklmnopqrstuvwxyza
+a letter too many | little | 04.03.02.01.1C | abcdefghijklmnopqrstuvwxyza | bad 28
+the last bad length | big | 01.02.03.04.FE | abcdefghijklmnopqrstuvwxyza | bad 254
+a long name | little | 07.00.00.00.FF.00.00.00.08.07.06.05.AC.00.00.40 | | long 7 05060708 400000AC
+a long name | big | 00.00.00.07.FF.00.00.00.05.06.07.08.40.00.00.AC | | long 7 05060708 400000AC
+";
+
+/// A record that begins with these bytes, two digits each between points, and has these letters from its sixth byte on.
+fn record(bytes: &str, letters: &str) -> Option<[u8; 32]> {
+    let mut record = [0; 32];
+    for (there, letter) in record.iter_mut().skip(5).zip(letters.as_bytes()) {
+        *there = *letter;
+    }
+    for (there, byte) in record.iter_mut().zip(bytes.split('.')) {
+        *there = u8::from_str_radix(byte, 16).ok()?;
+    }
+    Some(record)
+}
+
+/// A number of hexadecimal digits.
+fn number(digits: &str) -> Option<u32> {
+    u32::from_str_radix(digits, 16).ok()
+}
+
+/// What a row says of its record: the kind, and the length, or the inode and what else the kind has. Numbers but the length are hexadecimal.
+fn slot_of(said: &str) -> Option<Slot<'_>> {
+    let mut words = said.split(' ');
+    match words.next()? {
+        "unused" => Some(Slot::Unused),
+        "bad" => Some(Slot::Bad {
+            length: words.next()?.parse::<u8>().ok()?,
+        }),
+        "short" => Some(Slot::Short {
+            inode: number(words.next()?)?,
+            name: words.next()?.as_bytes(),
+        }),
+        "long" => Some(Slot::Long {
+            inode: number(words.next()?)?,
+            number: number(words.next()?)?,
+            sum: number(words.next()?)?,
+        }),
+        _ => None,
+    }
+}
+
+/// Whether a row's record says what stands at the row's end.
+fn holds(row: &str) -> Option<bool> {
+    let mut parts = row.split('|');
+    let _name = parts.next()?;
+    let order = match parts.next()?.trim() {
+        "little" => Order::Little,
+        "big" => Order::Big,
+        _ => return None,
+    };
+    let bytes = record(parts.next()?.trim(), parts.next()?.trim())?;
+    let want = slot_of(parts.next()?.trim())?;
+    Some(slot_at(&bytes, order, 0) == want)
+}
+
+/// The first row that doesn't hold, if there is one.
+fn first_wrong(rows: &str) -> Option<&str> {
+    for row in rows.lines() {
+        if !row.is_empty() && holds(row) != Some(true) {
+            return Some(row);
+        }
+    }
+    None
+}
+
 #[test]
 fn a_record_says_what_its_32_bytes_are(rt: HostRuntime) {
-    let little = Order::Little;
-    let big = Order::Big;
-    let cases = [
-        (
-            "no inode",
-            little,
-            b"\0\0\0\0\x03abc\0\0\0\0\0\0\0\0\0\0\0\0\0\0\0\0\0\0\0\0\0\0\0\0",
-            Slot::Unused,
-        ),
-        (
-            "no length",
-            little,
-            b"\x04\x03\x02\x01\0abc\0\0\0\0\0\0\0\0\0\0\0\0\0\0\0\0\0\0\0\0\0\0\0\0",
-            Slot::Unused,
-        ),
-        (
-            "one letter",
-            big,
-            b"\x01\x02\x03\x04\x01abc\0\0\0\0\0\0\0\0\0\0\0\0\0\0\0\0\0\0\0\0\0\0\0\0",
-            Slot::Short {
-                inode: 0x0102_0304,
-                name: b"a",
-            },
-        ),
-        (
-            "the longest short name",
-            little,
-            b"\x04\x03\x02\x01\x1Babcdefghijklmnopqrstuvwxyza",
-            Slot::Short {
-                inode: 0x0102_0304,
-                name: b"abcdefghijklmnopqrstuvwxyza",
-            },
-        ),
-        (
-            "a letter too many",
-            little,
-            b"\x04\x03\x02\x01\x1Cabcdefghijklmnopqrstuvwxyza",
-            Slot::Bad { length: 28 },
-        ),
-        (
-            "the last bad length",
-            big,
-            b"\x01\x02\x03\x04\xFEabcdefghijklmnopqrstuvwxyza",
-            Slot::Bad { length: 254 },
-        ),
-        (
-            "a long name",
-            little,
-            b"\x07\0\0\0\xFF\0\0\0\x08\x07\x06\x05\xAC\0\0\x40\0\0\0\0\0\0\0\0\0\0\0\0\0\0\0\0",
-            Slot::Long {
-                inode: 7,
-                number: 0x0506_0708,
-                sum: 0x4000_00AC,
-            },
-        ),
-        (
-            "a long name",
-            big,
-            b"\0\0\0\x07\xFF\0\0\0\x05\x06\x07\x08\x40\0\0\xAC\0\0\0\0\0\0\0\0\0\0\0\0\0\0\0\0",
-            Slot::Long {
-                inode: 7,
-                number: 0x0506_0708,
-                sum: 0x4000_00AC,
-            },
-        ),
-    ];
-    for (name, order, bytes, want) in cases {
-        assert_eq!(rt; slot_at(bytes, order, 0), want, "{name}, {order:?}");
-    }
+    assert_eq!(rt; first_wrong(RECORDS), None);
 }
 
 #[test]

@@ -32,71 +32,66 @@ fn byte(volume: (u64, u32, u32), number: u32, place: u32) -> Option<u8> {
         .filter(|filled| *filled == byte)
 }
 
+/// Bytes of the bitmap of 64 KiB in blocks of 512 bytes: what stands there, the held block, the byte's place, and its two digits.
+const SMALL: &str = "
+a byte of the halves | 10 | 0 | FF
+the end of the halves, and the held block | 10 | 1 | 07
+the end of the halves | 20 | 1 | 03
+a held block | 20 | 2 | 10
+no held block | 20 | 3 | 00
+the last block | 95 | 11 | 80
+past the last block | 10 | 12 | FF
+the leaf's last byte | 10 | 511 | FF
+";
+
+/// Those of a volume of 45 blocks.
+const ODD: &str = "
+both halves and the held block in one byte | 4 | 0 | 1F
+the end of the blocks | 4 | 5 | E0
+the end of the blocks, and the last block | 44 | 5 | F0
+";
+
+/// Those of a volume of 131,040 blocks, of which the halves take 8,324: they end in the third of 32 leaves.
+const LARGE: &str = "
+a leaf of the halves | 20000 | 1023 | FF
+the end of the halves in a leaf | 20000 | 1040 | 0F
+the held block, first of its leaf | 12288 | 1536 | 01
+the held block, last of its leaf | 16383 | 2047 | 80
+before the held block | 20000 | 2499 | 00
+the held block in a leaf | 20000 | 2500 | 01
+behind the held block | 20000 | 2501 | 00
+a leaf before the held block | 20000 | 2000 | 00
+a leaf behind the held block | 20000 | 3000 | 00
+a leaf where a half's block is held | 10 | 3000 | 00
+the last block in the last leaf | 131039 | 16379 | 80
+past it in the last leaf | 131039 | 16380 | FF
+";
+
+/// Whether a volume's bitmap has the byte of a row.
+fn holds(volume: (u64, u32, u32), row: &str) -> Option<bool> {
+    let mut parts = row.split('|');
+    let _name = parts.next()?;
+    let number = parts.next()?.trim().parse::<u32>().ok()?;
+    let place = parts.next()?.trim().parse::<u32>().ok()?;
+    let want = u8::from_str_radix(parts.next()?.trim(), 16).ok()?;
+    Some(byte(volume, number, place) == Some(want))
+}
+
+/// The first row that doesn't hold of a volume, if there is one.
+fn first_wrong(volume: (u64, u32, u32), rows: &str) -> Option<&str> {
+    for row in rows.lines() {
+        if !row.is_empty() && holds(volume, row) != Some(true) {
+            return Some(row);
+        }
+    }
+    None
+}
+
 #[test]
 fn the_bytes_of_a_bitmap(rt: HostRuntime) {
-    let small = (65536, 512, 16);
-    let odd = (0x4000 + 45 * 4096, 4096, 16);
-    // 131,040 blocks, of which the halves take 8,324: they end in the third of 32 leaves.
-    let large = (67_108_864, 512, 16384);
-    // The volume, the held block, the byte's place, and what it is.
-    let cases = [
-        ("a byte of the halves", &small, 10, 0, 0xFF),
-        (
-            "the end of the halves, and the held block",
-            &small,
-            10,
-            1,
-            0b111,
-        ),
-        ("the end of the halves", &small, 20, 1, 0b11),
-        ("a held block", &small, 20, 2, 0x10),
-        ("no held block", &small, 20, 3, 0),
-        ("the last block", &small, 95, 11, 0x80),
-        ("past the last block", &small, 10, 12, 0xFF),
-        ("the leaf's last byte", &small, 10, 511, 0xFF),
-        (
-            "both halves and the held block in one byte",
-            &odd,
-            4,
-            0,
-            0x1F,
-        ),
-        ("the end of the blocks", &odd, 4, 5, 0xE0),
-        (
-            "the end of the blocks, and the last block",
-            &odd,
-            44,
-            5,
-            0xF0,
-        ),
-        ("a leaf of the halves", &large, 20000, 1023, 0xFF),
-        ("the end of the halves in a leaf", &large, 20000, 1040, 0xF),
-        ("the held block, first of its leaf", &large, 12288, 1536, 1),
-        (
-            "the held block, last of its leaf",
-            &large,
-            16383,
-            2047,
-            0x80,
-        ),
-        ("before the held block", &large, 20000, 2499, 0),
-        ("the held block in a leaf", &large, 20000, 2500, 1),
-        ("behind the held block", &large, 20000, 2501, 0),
-        ("a leaf before the held block", &large, 20000, 2000, 0),
-        ("a leaf behind the held block", &large, 20000, 3000, 0),
-        ("a leaf where a half's block is held", &large, 10, 3000, 0),
-        (
-            "the last block in the last leaf",
-            &large,
-            131_039,
-            16379,
-            0x80,
-        ),
-        ("past it in the last leaf", &large, 131_039, 16380, 0xFF),
-    ];
-    for (name, volume, number, place, want) in cases {
-        assert_eq!(rt; byte(*volume, number, place), Some(want), "{name}");
-    }
+    assert_eq!(rt; first_wrong((65536, 512, 16), SMALL), None);
+    assert_eq!(rt; first_wrong((0x4000 + 45 * 4096, 4096, 16), ODD), None);
+    assert_eq!(rt; first_wrong((67_108_864, 512, 16384), LARGE), None);
 }
 
 /// A word of a pointer block of the first half's Inode tree, as it is filled in either order.
