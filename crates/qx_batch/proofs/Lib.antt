@@ -1,0 +1,13 @@
+pub mod CommittedStates
+pub mod GivenBack
+pub mod JointNeeds
+pub mod PreparedBatches
+pub mod PlacedNodes
+pub mod NodeContentsAfter
+pub mod KeptNodes
+pub mod CommittedBatches
+pub mod PutIntoNodes
+pub mod DistinctLists
+pub mod ChangedNodes
+pub mod CountedLosses
+pub mod ChangedBatches
