@@ -14,7 +14,7 @@ pub record AreRows (d p : ℕ) (slots : List Slot) : Type 0 where
   pub dot : (k n : ℕ) (long : Option ℕ) → slice_get slots k ≡ Some (Row n (46 ∷ []) long) → n ≡ d
   pub dots : (k n : ℕ) (long : Option ℕ) → slice_get slots k ≡ Some (Row n (46 ∷ 46 ∷ []) long) → n ≡ p
 
--- what a tree is by itself: its inodes are the reached ones, and each directory but inode 1 is named by one row, which is its parent's
+-- what a tree is by itself: its inodes are the reached ones; inode 1 is a directory, its own parent, that no row names; each other directory is named by one row, which is its parent's; and its rows are as rows must be
 pub record IsRooted (t : Tree) : Type 0 where
   pub reached : (n : ℕ) (e : Entry) → entry_of t n ≡ Some e → Reached t n
   pub closed : (n : ℕ) → Reached t n → (e : Entry) × (entry_of t n ≡ Some e)
