@@ -1,0 +1,17 @@
+pub mod WordSteps
+pub mod ReadLines
+pub mod ReadArguments
+pub mod ReadNumbers
+pub mod ReadWords
+pub mod SpelledWords
+pub mod SpelledLines
+pub mod SpelledArguments
+pub mod SpelledModes
+pub mod SpelledNumbers
+pub mod NamedVerbs
+pub mod ArgumentSteps
+pub mod SameFronts
+pub mod LongestParts
+pub mod Completions
+pub mod CompletedLines
+pub mod LineFaults

@@ -1,0 +1,35 @@
+use Rattle.std.proofs.Common.{refl}
+use Rattle.std.specs.Fmt.{digits}
+use Rattle.qx_geom.specs.Layout.{levels_for}
+use Rattle.qx_geom.specs.Positions.{present_after}
+use Rattle.qx_model.specs.Decisions.{decision}
+use Rattle.qx_model.specs.EmptyTree.{empty_tree}
+use Rattle.qx_model.specs.Next.{next_under}
+use Rattle.qx_model.specs.Plans.{plan}
+use Rattle.qx_model.specs.Snapshots.{steps_wanted}
+use Rattle.qx_model.specs.Space.{free_count}
+use Rattle.qx_model.specs.TreeTouch.{fresh_positions}
+use Rattle.qx_words.specs.Reading.{argument_from, command_from, furthest, line_from, mode_from, number_from, word_from}
+use Rattle.qx_words.specs.Texts.{last_text, mode_text, notice_text, refusal_text, row_text, space_text, stat_text, times_text, turn_text, word_text}
+use Rattle.qx_words.proofs.script_examples.lines_of_a_script.Goals as goal
+
+-- by computing
+pub returns-clause-nothing : goal.returns-clause-nothing
+unfolding digits levels_for present_after decision empty_tree next_under plan steps_wanted free_count fresh_positions argument_from command_from furthest line_from mode_from number_from word_from last_text mode_text notice_text refusal_text row_text space_text stat_text times_text turn_text word_text
+returns-clause-nothing c = refl
+
+pub returns-clause-empty : goal.returns-clause-empty
+unfolding digits levels_for present_after decision empty_tree next_under plan steps_wanted free_count fresh_positions argument_from command_from furthest line_from mode_from number_from word_from last_text mode_text notice_text refusal_text row_text space_text stat_text times_text turn_text word_text
+returns-clause-empty c = refl
+
+pub returns-clause-last : goal.returns-clause-last
+unfolding digits levels_for present_after decision empty_tree next_under plan steps_wanted free_count fresh_positions argument_from command_from furthest line_from mode_from number_from word_from last_text mode_text notice_text refusal_text row_text space_text stat_text times_text turn_text word_text
+returns-clause-last c = refl
+
+pub returns-clause-output_of_nothing : goal.returns-clause-output_of_nothing
+unfolding digits levels_for present_after decision empty_tree next_under plan steps_wanted free_count fresh_positions argument_from command_from furthest line_from mode_from number_from word_from last_text mode_text notice_text refusal_text row_text space_text stat_text times_text turn_text word_text
+returns-clause-output_of_nothing c = refl
+
+pub returns-clause-output_of_last : goal.returns-clause-output_of_last
+unfolding digits levels_for present_after decision empty_tree next_under plan steps_wanted free_count fresh_positions argument_from command_from furthest line_from mode_from number_from word_from last_text mode_text notice_text refusal_text row_text space_text stat_text times_text turn_text word_text
+returns-clause-output_of_last c = refl
