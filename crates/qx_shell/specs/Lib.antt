@@ -1,0 +1,12 @@
+pub mod Occasions
+pub mod MadeTurns
+pub mod Allowed
+pub mod Mounts
+pub mod Cuts
+pub mod NewestCopies
+pub mod Turns
+pub mod Ends
+pub mod Unmounted
+pub mod Headline
+pub mod Served
+pub mod SmallRuns
