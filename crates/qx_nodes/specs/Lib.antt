@@ -5,6 +5,6 @@ pub mod BlockMap
 pub mod Leaves
 pub mod Visits
 pub mod Content
+pub mod NodeContents
 pub mod LongNames
 pub mod ForeignNodes
-pub mod NodeContents

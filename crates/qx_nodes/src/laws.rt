@@ -7,7 +7,8 @@ ghost use Rattle.qx_nodes.specs.BlockMap.{BlockMap, with_bytes};
 ghost use Rattle.qx_nodes.specs.Leaves.{Block, leaf_of};
 ghost use Rattle.qx_nodes.specs.Visits.{AgreesOn, IsMet, LiesBelow, Visit, present_of, visits_of};
 ghost use Rattle.qx_nodes.specs.Content.{Reaches, byte_of, content_of, leaf_bytes, piece_of};
-ghost use Rattle.qx_nodes.specs.LongNames.{long_name};
+ghost use Rattle.qx_nodes.specs.LongNames.{long_name, name_in};
+ghost use Rattle.qx_nodes.specs.NodeContents.{node_content};
 ghost use Rattle.qx_records.specs.NameRecord.{long_name_in};
 
 /// What the path to a leaf below the size gives, the walk of the node meets.
@@ -72,4 +73,9 @@ pub fn a_piece_is_a_part_of_the_content()
 pub fn a_name_is_what_its_leaf_says()
     ensures { (m : BlockMap) (longfile : Root) (n : ℕ)
         → long_name m longfile n ≡ (if nat_lt (n * m.size) longfile.size then long_name_in m.order (leaf_bytes m longfile n) else None) }
+{}
+
+/// And it is what the Longfile's content says, where the levels reach its size.
+pub fn a_long_name_is_read_by_its_content()
+    ensures { (m : BlockMap) (longfile : Root) (n : ℕ) → Reaches m longfile → name_in m.order m.size (node_content m longfile) n ≡ long_name m longfile n }
 {}
