@@ -17,6 +17,7 @@ use Rattle.qx_geom.proofs.VolumeNumbers.{IsGeometry-keeps, VolumeNumbers, tree_l
 use Rattle.qx_nodes.specs.BlockMap.{BlockMap}
 use Rattle.qx_nodes.specs.Content.{levels_fit, root_fits}
 use Rattle.qx_nodes.specs.Leaves.{leaves_below}
+use Rattle.qx_nodes.specs.NodeContents.{node_content}
 use Rattle.qx_nodes.specs.Visits.{is_leaf}
 use Rattle.qx_records.specs.declared.inode.Inode.{Inode}
 use Rattle.qx_records.specs.declared.kind.Kind.TheVariants as kinds
@@ -25,7 +26,8 @@ use Rattle.qx_model.specs.EmptyTree.{empty_tree}
 use Rattle.qx_model.specs.Tree.{Entry}
 use Rattle.qx_nodes.specs.LongNames.{long_name}
 use Rattle.qx_view.specs.Images.{Roots, inode_of, inode_places}
-use Rattle.qx_view.specs.Reading.{IsEntry, IsOfKind, IsTreeOf, attr_of}
+use Rattle.qx_view.specs.Entries.{HasContent, IsEntryOf}
+use Rattle.qx_view.specs.Reading.{IsEntry, IsTreeOf, reader_of}
 use Rattle.qx_make.specs.Blocks.{top_block, top_inode}
 use Rattle.qx_make.specs.NewVolume.{empty_root, new_roots}
 use Rattle.qx_make.proofs.EmptyTrees.{empty_places, empty_rooted, only_entry, root_entry}
@@ -104,10 +106,9 @@ module _ (v : NewBlocks) where
     abbrev entry : Entry
     entry = root_entry g.blocksize g.num_inodes v.moment
 
-    -- has its node
-    top_holds : IsOfKind m empty_root (top_node v) kinds.Directory entry
+    -- has its node's content
+    top_holds : HasContent (reader_of m empty_root) (node_content m (top_node v)) kinds.Directory entry
     top_holds = record {
-      levels = top_fits;
       size = refl;
       present = ap (λ vs. map (λ u. u.index) (filter is_leaf vs)) (sym (top_visits v));
       body = slots_are v;
@@ -121,10 +122,9 @@ module _ (v : NewBlocks) where
         record {
           there = le-leb 1 (inode_places r) (omega (arith, places_are which, inodes_from g v.whole));
           positive = omega arith;
-          attr = ap attr_of (sym is);
-          kind = kinds.Directory;
-          kind_is = refl;
-          holds = subst (λ (i : Inode). IsOfKind m empty_root i.root kinds.Directory entry) (sym is) top_holds;
+          levels = λ own. subst (λ (i : Inode). IsTrue (levels_fit m i.root)) (sym is) top_fits;
+          is = subst (λ (i : Inode). IsEntryOf (reader_of m empty_root) i (node_content m i.root) entry) (sym is)
+              (record { attr = refl; kind = kinds.Directory; kind_is = refl; holds = top_holds });
         }
 
     -- what begins at the roots is the empty tree

@@ -9,7 +9,7 @@ use Rattle.qx_records.specs.declared.kind.Kind.TheVariants as kinds
 use Rattle.qx_fields.specs.Number.{field, number}
 use Rattle.qx_geom.proofs.Truths.{true_or_false}
 use Rattle.qx_geom.specs.Lists.{each_below, is_in}
-use Rattle.qx_model.specs.Tree.{Directory, Row, Slot, Unused, is_dots, named_by}
+use Rattle.qx_model.specs.Tree.{Row, Slot, Unused, is_dots, named_by}
 use Rattle.qx_nodes.specs.BlockMap.{BlockMap}
 use Rattle.qx_nodes.specs.Content.{levels_fit, piece_of}
 use Rattle.qx_records.specs.InodeRecord.{kind_of}
@@ -18,10 +18,10 @@ use Rattle.qx_records.specs.NameRecord as records
 use Rattle.qx_records.specs.NameSum.{sum_fits}
 use Rattle.qx_view.proofs.PassingTests.{NodePasses, Passing, RowPasses, SlotsPass, node_passes, passing_parts, records_pass, row_at}
 use Rattle.qx_view.proofs.TreeFound.{NamedAt, each_self, names_to_slots}
-use Rattle.qx_view.proofs.WalkEnds.{inodes}
 use Rattle.qx_nodes.specs.LongNames.{long_name}
 use Rattle.qx_view.specs.Images.{Roots, has_inode, raw_of}
-use Rattle.qx_view.specs.Reading.{long_slot, slot_of, slots_read}
+use Rattle.qx_view.specs.Entries.{long_slot}
+use Rattle.qx_view.specs.Reading.{slot_of, slots_read}
 use Rattle.qx_view.specs.Walk.{Taken, inode_mode, inode_root, is_directory_inode, is_directory_kind, kind_tests, named_inode, named_inodes, node_tests, records_tests}
 
 -- a directory's kind is one

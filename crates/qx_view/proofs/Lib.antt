@@ -1,3 +1,4 @@
+pub mod EntryContents
 pub mod TreeLocality
 pub mod OneTree
 pub mod TestOrder

@@ -2,14 +2,16 @@
 use Rattle.std.proofs.Common.{◌≡◌, ℕ, suc, List, [], ◌∷◌, length, refl, sym, ◌∙◌, ap, subst, arith}
 use Rattle.std.specs.Prelude.{Option, Some, None, map, slice_get}
 use Rattle.std.specs.Option.{option_flatten}
-use Rattle.qx_geom.specs.declared.root.Root.{Root}
+use Rattle.qx_records.specs.declared.inode.Inode.{Inode}
 use Rattle.qx_records.specs.declared.kind.Kind.{Kind}
 use Rattle.qx_records.specs.declared.kind.Kind.TheVariants as kinds
 use Rattle.qx_model.specs.Tree.{Body, Directory, Entry, File, IsDirectory, Link, Names, Reached, Slot, Special, Tree, down, entry_of, slots_of_entry, top}
 use Rattle.qx_nodes.specs.BlockMap.{BlockMap}
+use Rattle.qx_nodes.specs.NodeContents.{NodeContent, node_content}
 use Rattle.qx_records.specs.InodeRecord.{kind_of}
 use Rattle.qx_view.specs.Images.{Roots, inode_of}
-use Rattle.qx_view.specs.Reading.{IsBody, IsEntry, IsNode, IsOfKind, IsTreeOf}
+use Rattle.qx_view.specs.Entries.{HasContent, Holds, IsBody, IsEntryOf, Reader}
+use Rattle.qx_view.specs.Reading.{IsTreeOf, reader_of}
 
 -- lists whose present elements are alike
 somes_same : {A : Type 0} (xs ys : List A) → map (λ x. Some x) xs ≡ map (λ x. Some x) ys → xs ≡ ys
@@ -25,62 +27,62 @@ somes_same (x ∷ xs) (y ∷ ys) e =
 abbrev SameParent : Body → Body → Type 0
 SameParent a b = (s u : List Slot) (p q : ℕ) → a ≡ Directory s p → b ≡ Directory u q → p ≡ q
 
--- a node and a parent determine what it holds
-body_same : (m : BlockMap) (longfile node : Root) (kind : Kind) (a b : Body) → SameParent a b → IsBody m longfile node kind a → IsBody m longfile node kind b → a ≡ b
-body_same m longfile node kinds.Directory (Directory s p) (Directory u q) same x y =
-    let slots : s ≡ u = somes_same s u (sym x ∙ y) in
+-- a content and a parent determine what an inode holds
+body_same : (r : Reader) (c : NodeContent) (kind : Kind) (a b : Body) → SameParent a b → IsBody r c kind a → IsBody r c kind b → a ≡ b
+body_same r c kinds.Directory (Directory s p) (Directory u q) same h k =
+    let slots : s ≡ u = somes_same s u (sym h ∙ k) in
     λ i. Directory (slots i) (same s u p q refl refl i)
-body_same m longfile node kinds.Directory (Directory s p) (File c) same x y = absurd y
-body_same m longfile node kinds.Directory (Directory s p) (Link c) same x y = absurd y
-body_same m longfile node kinds.Directory (Directory s p) Special same x y = absurd y
-body_same m longfile node kinds.Directory (File c) b same x y = absurd x
-body_same m longfile node kinds.Directory (Link c) b same x y = absurd x
-body_same m longfile node kinds.Directory Special b same x y = absurd x
-body_same m longfile node kinds.File (File c) (File d) same x y = ap (λ z. File z) (x ∙ sym y)
-body_same m longfile node kinds.File (File c) (Directory u q) same x y = absurd y
-body_same m longfile node kinds.File (File c) (Link d) same x y = absurd y
-body_same m longfile node kinds.File (File c) Special same x y = absurd y
-body_same m longfile node kinds.File (Directory s p) b same x y = absurd x
-body_same m longfile node kinds.File (Link c) b same x y = absurd x
-body_same m longfile node kinds.File Special b same x y = absurd x
-body_same m longfile node kinds.Link (Link c) (Link d) same x y = ap (λ z. Link z) (x.0 ∙ sym y.0)
-body_same m longfile node kinds.Link (Link c) (Directory u q) same x y = absurd y
-body_same m longfile node kinds.Link (Link c) (File d) same x y = absurd y
-body_same m longfile node kinds.Link (Link c) Special same x y = absurd y
-body_same m longfile node kinds.Link (Directory s p) b same x y = absurd x
-body_same m longfile node kinds.Link (File c) b same x y = absurd x
-body_same m longfile node kinds.Link Special b same x y = absurd x
-body_same m longfile node kinds.Special (Directory s p) b same x y = absurd x
-body_same m longfile node kinds.Special (File c) b same x y = absurd x
-body_same m longfile node kinds.Special (Link c) b same x y = absurd x
-body_same m longfile node kinds.Special Special b same x y = absurd x
+body_same r c kinds.Directory (Directory s p) (File x) same h k = absurd k
+body_same r c kinds.Directory (Directory s p) (Link x) same h k = absurd k
+body_same r c kinds.Directory (Directory s p) Special same h k = absurd k
+body_same r c kinds.Directory (File x) b same h k = absurd h
+body_same r c kinds.Directory (Link x) b same h k = absurd h
+body_same r c kinds.Directory Special b same h k = absurd h
+body_same r c kinds.File (File x) (File y) same h k = ap (λ z. File z) (h ∙ sym k)
+body_same r c kinds.File (File x) (Directory u q) same h k = absurd k
+body_same r c kinds.File (File x) (Link y) same h k = absurd k
+body_same r c kinds.File (File x) Special same h k = absurd k
+body_same r c kinds.File (Directory s p) b same h k = absurd h
+body_same r c kinds.File (Link x) b same h k = absurd h
+body_same r c kinds.File Special b same h k = absurd h
+body_same r c kinds.Link (Link x) (Link y) same h k = ap (λ z. Link z) (h.0 ∙ sym k.0)
+body_same r c kinds.Link (Link x) (Directory u q) same h k = absurd k
+body_same r c kinds.Link (Link x) (File y) same h k = absurd k
+body_same r c kinds.Link (Link x) Special same h k = absurd k
+body_same r c kinds.Link (Directory s p) b same h k = absurd h
+body_same r c kinds.Link (File x) b same h k = absurd h
+body_same r c kinds.Link Special b same h k = absurd h
+body_same r c kinds.Special (Directory s p) b same h k = absurd h
+body_same r c kinds.Special (File x) b same h k = absurd h
+body_same r c kinds.Special (Link x) b same h k = absurd h
+body_same r c kinds.Special Special b same h k = absurd h
 
 -- and the entry, beside its attributes
-node_same : (m : BlockMap) (longfile node : Root) (kind : Kind) (a b : Entry) → a.attr ≡ b.attr → SameParent a.body b.body → IsNode m longfile node kind a → IsNode m longfile node kind b → a ≡ b
-node_same m longfile node kind a b attr same x y =
-    let size : a.size ≡ b.size = x.size ∙ sym y.size in
-    let present : a.present ≡ b.present = x.present ∙ sym y.present in
-    let body : a.body ≡ b.body = body_same m longfile node kind a.body b.body same x.body y.body in
+content_same : (r : Reader) (c : NodeContent) (kind : Kind) (a b : Entry) → a.attr ≡ b.attr → SameParent a.body b.body → HasContent r c kind a → HasContent r c kind b → a ≡ b
+content_same r c kind a b attr same h k =
+    let size : a.size ≡ b.size = h.size ∙ sym k.size in
+    let present : a.present ≡ b.present = h.present ∙ sym k.present in
+    let body : a.body ≡ b.body = body_same r c kind a.body b.body same h.body k.body in
     λ i. record { attr = attr i; size = size i; present = present i; body = body i }
 
 -- of any kind
-kind_same : (m : BlockMap) (longfile node : Root) (kind : Kind) (a b : Entry) → a.attr ≡ b.attr → SameParent a.body b.body → IsOfKind m longfile node kind a → IsOfKind m longfile node kind b → a ≡ b
-kind_same m longfile node kinds.Special a b attr same x y =
-    let size : a.size ≡ b.size = x.size ∙ sym y.size in
-    let present : a.present ≡ b.present = x.present ∙ sym y.present in
-    let body : a.body ≡ b.body = x.body ∙ sym y.body in
+kind_same : (r : Reader) (c : NodeContent) (kind : Kind) (a b : Entry) → a.attr ≡ b.attr → SameParent a.body b.body → Holds r c kind a → Holds r c kind b → a ≡ b
+kind_same r c kinds.Special a b attr same h k =
+    let size : a.size ≡ b.size = h.size ∙ sym k.size in
+    let present : a.present ≡ b.present = h.present ∙ sym k.present in
+    let body : a.body ≡ b.body = h.body ∙ sym k.body in
     λ i. record { attr = attr i; size = size i; present = present i; body = body i }
-kind_same m longfile node kinds.Directory a b attr same x y = node_same m longfile node kinds.Directory a b attr same x y
-kind_same m longfile node kinds.File a b attr same x y = node_same m longfile node kinds.File a b attr same x y
-kind_same m longfile node kinds.Link a b attr same x y = node_same m longfile node kinds.Link a b attr same x y
+kind_same r c kinds.Directory a b attr same h k = content_same r c kinds.Directory a b attr same h k
+kind_same r c kinds.File a b attr same h k = content_same r c kinds.File a b attr same h k
+kind_same r c kinds.Link a b attr same h k = content_same r c kinds.Link a b attr same h k
 
--- an inode and a parent determine the entry
-entry_same : (m : BlockMap) (r : Roots) (n : ℕ) (a b : Entry) → SameParent a.body b.body → IsEntry m r n a → IsEntry m r n b → a ≡ b
-entry_same m r n a b same x y =
+-- an inode, its node's content and a parent determine the entry
+entry_same : (r : Reader) (i : Inode) (c : NodeContent) (a b : Entry) → SameParent a.body b.body → IsEntryOf r i c a → IsEntryOf r i c b → a ≡ b
+entry_same r i c a b same x y =
     let attr : a.attr ≡ b.attr = x.attr ∙ sym y.attr in
-    let both : Some x.kind ≡ Some y.kind = sym x.kind_is ∙ ap (λ c. kind_of c.mode) attr ∙ y.kind_is in
+    let both : Some x.kind ≡ Some y.kind = sym x.kind_is ∙ ap (λ z. kind_of z.mode) attr ∙ y.kind_is in
     let kind : x.kind ≡ y.kind = cc in
-    kind_same m r.longfile (inode_of m r.inodes n).root y.kind a b attr same (subst (λ k. IsOfKind m r.longfile (inode_of m r.inodes n).root k a) kind x.holds) y.holds
+    kind_same r c y.kind a b attr same (subst (λ k. Holds r c k a) kind x.holds) y.holds
 
 -- a directory has one parent
 pub parent_same : (t : Tree) (d p q : ℕ) → IsDirectory t d p → IsDirectory t d q → p ≡ q
@@ -109,9 +111,9 @@ module _ (m : BlockMap) (r : Roots) (t u : Tree) (is : IsTreeOf m r t) (also : I
   same_at n top =
       let a : (e : Entry) × (entry_of t 1 ≡ Some e) = is.rooted.closed 1 top in
       let b : (e : Entry) × (entry_of u 1 ≡ Some e) = also.rooted.closed 1 top in
-      let same : a.0 ≡ b.0 = entry_same m r 1 a.0 b.0
+      let same : a.0 ≡ b.0 = entry_same (reader_of m r.longfile) (inode_of m r.inodes 1) (node_content m (inode_of m r.inodes 1).root) a.0 b.0
       (λ s v p q xs ys. parent_same t 1 p 1 (a.0, s, a.1, xs) is.rooted.top ∙ sym (parent_same u 1 q 1 (b.0, v, b.1, ys) also.rooted.top))
-      (is.each 1 a.0 a.1) (also.each 1 b.0 b.1) in
+      (is.each 1 a.0 a.1).is (also.each 1 b.0 b.1).is in
       record { entry = a.0; left = a.1; right = b.1 ∙ ap (λ e. Some e) (sym same); reached = top }
   same_at n (down {d} rd names) =
       let above : SameAt t u d = same_at d rd in
@@ -119,9 +121,9 @@ module _ (m : BlockMap) (r : Roots) (t u : Tree) (is : IsTreeOf m r t) (also : I
       let there : Reached u n = down above.reached names' in
       let a : (e : Entry) × (entry_of t n ≡ Some e) = is.rooted.closed n (down rd names) in
       let b : (e : Entry) × (entry_of u n ≡ Some e) = also.rooted.closed n there in
-      let same : a.0 ≡ b.0 = entry_same m r n a.0 b.0
+      let same : a.0 ≡ b.0 = entry_same (reader_of m r.longfile) (inode_of m r.inodes n) (node_content m (inode_of m r.inodes n).root) a.0 b.0
       (λ s v p q xs ys. parent_is t is d n p names (a.0, s, a.1, xs) ∙ sym (parent_is u also d n q names' (b.0, v, b.1, ys)))
-      (is.each n a.0 a.1) (also.each n b.0 b.1) in
+      (is.each n a.0 a.1).is (also.each n b.0 b.1).is in
       record { entry = a.0; left = a.1; right = b.1 ∙ ap (λ e. Some e) (sym same); reached = there }
 
 -- an option, by whether it is there

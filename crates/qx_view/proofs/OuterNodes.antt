@@ -1,5 +1,5 @@
 -- The nodes outside the halves: the Longfile's, and those of the tree's inodes but for specials.
-use Rattle.std.proofs.Common.{◌≡◌, ℕ, refl, ap, ◌∙◌, subst}
+use Rattle.std.proofs.Common.{◌≡◌, ℕ, ap, ◌∙◌, subst}
 use Rattle.std.specs.Prelude.{true, false, not, Some, Contains, map, filter}
 use Rattle.qx_geom.proofs.Members.{Contains-cons, Contains-head}
 use Rattle.qx_geom.specs.Lists.{is_in}
@@ -8,18 +8,16 @@ use Rattle.qx_model.specs.Tree.{Entry, Tree, entry_of, is_special_body}
 use Rattle.qx_nodes.specs.BlockMap.{BlockMap}
 use Rattle.qx_nodes.specs.Content.{HasSize}
 use Rattle.qx_nodes.specs.Visits.{Visit, visits_of}
-use Rattle.qx_records.specs.declared.kind.Kind.TheVariants as kinds
-use Rattle.qx_records.specs.declared.kind.Kind.{Kind}
 use Rattle.qx_view.proofs.AlikeLists.{members_filter, members_flat_map, members_map}
 use Rattle.qx_view.proofs.ApartPositions.{tree_is}
 use Rattle.qx_view.proofs.OneTree.{tree_unique}
 use Rattle.qx_view.proofs.TestsAndTree.{no_test_fails}
-use Rattle.qx_view.proofs.TestsFromTree.{kind_here}
+use Rattle.qx_view.proofs.TestsFromTree.{special_here}
 use Rattle.qx_view.proofs.TreeFound.{TakenWith, in_entry, parent_in, taken_with, tree_found}
 use Rattle.qx_view.proofs.WalkEnds.{inodes}
 use Rattle.qx_view.specs.Images.{Roots}
-use Rattle.qx_view.specs.Reading.{IsOfKind, IsTreeOf}
-use Rattle.qx_view.specs.Sound.{is_special_inode, is_special_kind, outer_blocks, outer_nodes}
+use Rattle.qx_view.specs.Reading.{IsTreeOf}
+use Rattle.qx_view.specs.Sound.{is_special_inode, outer_blocks, outer_nodes}
 use Rattle.qx_view.specs.Walk.{inode_root, taken_of, walked_inodes}
 
 module _ (m : BlockMap) (r : Roots) (t : Tree) (size : HasSize m) (is : IsTreeOf m r t) where
@@ -30,16 +28,6 @@ module _ (m : BlockMap) (r : Roots) (t : Tree) (size : HasSize m) (is : IsTreeOf
       let listed : is_in (inodes (taken_of m r)) n ≡ true = (in_entry m r n e (subst (λ x. entry_of x n ≡ Some e) same at)).0 in
       let u : TakenWith (taken_of m r) n (parent_in (taken_of m r) n) = taken_with (taken_of m r) n listed in
       subst (λ k. Contains (walked_inodes m r) k) u.inode (members_map (λ x. x.inode) (taken_of m r) u.it u.among)
-
-  -- an inode whose entry is no special's isn't one
-  not_special_inode : (n : ℕ) (e : Entry) → entry_of t n ≡ Some e → is_special_body e.body ≡ false → is_special_inode m r n ≡ false
-  not_special_inode n e at some = ap (λ o. is_special_kind o) (kind_here m r t is n e at) ∙ by_kind (is.each n e at).kind (is.each n e at).holds
-    where
-      by_kind : (k : Kind) → IsOfKind m r.longfile (inode_root m r n) k e → is_special_kind (Some k) ≡ false
-      by_kind kinds.Directory i = refl
-      by_kind kinds.File i = refl
-      by_kind kinds.Link i = refl
-      by_kind kinds.Special i = let special : is_special_body e.body ≡ true = ap (λ b. is_special_body b) i.body in absurd (cc)
 
   -- what a node outside the halves meets is one of the blocks outside
   pub outer_has : (node : Root) (v : Visit) → Contains (outer_nodes m r) node → Contains (visits_of m node) v → Contains (outer_blocks m r) v.block
@@ -54,4 +42,4 @@ module _ (m : BlockMap) (r : Roots) (t : Tree) (size : HasSize m) (is : IsTreeOf
   inode_outer n e at some =
       Contains-cons r.longfile (inode_root m r n) (map (inode_root m r) (filter (λ n. not (is_special_inode m r n)) (walked_inodes m r)))
       (members_map (inode_root m r) (filter (λ n. not (is_special_inode m r n)) (walked_inodes m r)) n
-      (members_filter (λ n. not (is_special_inode m r n)) (walked_inodes m r) n (walked_has n e at) (ap (λ b. not b) (not_special_inode n e at some))))
+      (members_filter (λ n. not (is_special_inode m r n)) (walked_inodes m r) n (walked_has n e at) (ap (λ b. not b) (special_here m r t is n e at ∙ some))))

@@ -24,7 +24,8 @@ use Rattle.qx_view.specs.Walk.{gone_through}
 use Rattle.qx_nodes.specs.LongNames.{long_name}
 use Rattle.qx_view.specs.Images.{Roots, has_inode, raw_of, record_block}
 use Rattle.qx_model.specs.Rooted.{is_plain}
-use Rattle.qx_view.specs.Reading.{long_slot, slot_of}
+use Rattle.qx_view.specs.Entries.{long_slot}
+use Rattle.qx_view.specs.Reading.{slot_of}
 use Rattle.qx_view.specs.Walk.{Met, Place, Test, Tested, first_failing, inode_mode, is_directory_inode, named_inode, node_tests, record_tests, records_tests, row_tests, slot_name, visit_tests}
 
 -- no member of the list fails, whatever was met before

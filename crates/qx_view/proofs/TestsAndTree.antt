@@ -1,6 +1,6 @@
 -- No test of the walk fails exactly where the blocks have a tree.
 use Rattle.std.proofs.Common.{◌≡◌, ℕ, suc, ◌+◌, ◌<◌, inl, inr, List, [], ◌∷◌, ◌++◌, refl, sym, ◌∙◌, ap, subst, arith}
-use Rattle.std.specs.Prelude.{true, not, Option, Some, None, Contains, flat_map, slice_get}
+use Rattle.std.specs.Prelude.{true, false, not, Option, Some, None, Contains, flat_map, slice_get}
 use Rattle.std.specs.List.{list_all}
 use Rattle.std.proofs.lemmas.List.Elements.{Contains-append_cases}
 use Rattle.qx_geom.specs.declared.root.Root.{Root}
@@ -11,7 +11,7 @@ use Rattle.qx_geom.proofs.DistinctElements.{Distinct-append, Distinct-map, numbe
 use Rattle.qx_geom.proofs.Truths.{and_left, and_right, not_true, true_or_false}
 use Rattle.qx_geom.specs.Lists.{Distinct, all_differ, is_in}
 use Rattle.qx_geom.specs.Pointer.{per_block}
-use Rattle.qx_model.specs.Tree.{Directory, Entry, Slot, Special, Tree, entry_of}
+use Rattle.qx_model.specs.Tree.{Body, Directory, Entry, File, Link, Special, Tree, entry_of, is_special_body}
 use Rattle.qx_nodes.proofs.DistinctPositions.{node_distinct}
 use Rattle.qx_nodes.specs.BlockMap.{BlockMap}
 use Rattle.qx_nodes.specs.Content.{HasSize, root_fits}
@@ -19,12 +19,12 @@ use Rattle.qx_nodes.specs.Visits.{Visit, visits_of}
 use Rattle.qx_records.specs.InodeRecord.{kind_of}
 use Rattle.qx_view.proofs.AlikeLists.{flat_map_members}
 use Rattle.qx_view.proofs.ApartPositions.{all_placed, block_at, met_all, placed, placed_further, placed_kind, placed_taken}
+use Rattle.qx_view.proofs.EntryContents.{kind_in}
 use Rattle.qx_view.proofs.TestsFromTree.{AllTested, AllTested-append, AllTested-flat, TakenIn, in_inodes, inode_tested, kind_here, node_tested, none_from, queue_is, taken_differ, taken_in}
-use Rattle.qx_view.proofs.TreeLocality.{not_special}
 use Rattle.qx_view.proofs.WalkEnds.{inodes}
 use Rattle.qx_view.specs.Images.{Roots, inode_places}
 use Rattle.qx_model.specs.Owners.{OfFurther, OfInode, OfInodes, OfLongfile, Owner}
-use Rattle.qx_view.specs.Reading.{HasNode, IsBody, IsOfKind, IsTreeOf, StandsAt}
+use Rattle.qx_view.specs.Reading.{HasNode, IsTreeOf, StandsAt}
 use Rattle.qx_view.specs.Walk.{Taken, finding_of, inode_mode, inode_root, inode_tests, is_directory_inode, is_directory_kind, met_of, root_tests, taken_of, tests_of, top_tests}
 
 -- a position of a node is its owner's
@@ -123,13 +123,13 @@ module _ (m : BlockMap) (r : Roots) (t : Tree) (s : HasSize m) (is : IsTreeOf m 
   has_node : (u : Taken) (c : Contains (taken_of m r) u) (x : Owner × Visit) → Contains (placed_taken m r u) x → HasNode m r t (OfInode u.inode) (inode_root m r u.inode)
   has_node u c x h =
       let i : TakenIn m r t is u = taken_in m r t is u c in
-      go (is.each u.inode i.entry i.at).kind (subst (λ o. Contains (placed_kind m r u.inode o) x) (kind_here m r t is u.inode i.entry i.at) h) i.entry i.at (is.each u.inode i.entry i.at).holds
+      (i.entry, i.at, by_body i.entry.body (subst (λ o. Contains (placed_kind m r u.inode o) x) (kind_here m r t is u.inode i.entry i.at) h), refl)
     where
-      go : (k : Kind) → Contains (placed_kind m r u.inode (Some k)) x → (e : Entry) → entry_of t u.inode ≡ Some e → IsOfKind m r.longfile (inode_root m r u.inode) k e → HasNode m r t (OfInode u.inode) (inode_root m r u.inode)
-      go kinds.Special h e at q = absurd (omega (arith, h.1))
-      go kinds.Directory h e at q = (e, at, not_special m r.longfile (inode_root m r u.inode) kinds.Directory e.body q.body, refl)
-      go kinds.File h e at q = (e, at, not_special m r.longfile (inode_root m r u.inode) kinds.File e.body q.body, refl)
-      go kinds.Link h e at q = (e, at, not_special m r.longfile (inode_root m r u.inode) kinds.Link e.body q.body, refl)
+      by_body : (b : Body) → Contains (placed_kind m r u.inode (Some (kind_in b))) x → is_special_body b ≡ false
+      by_body (Directory slots p) h = refl
+      by_body (File content) h = refl
+      by_body (Link target) h = refl
+      by_body Special h = absurd (omega (arith, h.1))
 
   -- a position of an owner's node is one of the tree
   stands : (o : Owner) (x : Owner × Visit) (node : Root) → x.0 ≡ o → HasNode m r t o node → Contains (visits_of m node) x.1 → StandsAt m r t x.0 x.1
@@ -174,16 +174,10 @@ module _ (m : BlockMap) (r : Roots) (t : Tree) (s : HasSize m) (is : IsTreeOf m 
       let dir : (e : Entry) × (entry_of t 1 ≡ Some e) × (is_directory_inode m r 1 ≡ true) = top_directory in
       ((is.each 1 dir.0 dir.1).there, (dir.2, tt))
     where
-      by_kind : (k : Kind) (e : Entry) → IsOfKind m r.longfile (inode_root m r 1) k e → (slots : List Slot) (p : ℕ) → e.body ≡ Directory slots p → k ≡ kinds.Directory
-      by_kind kinds.Directory e q slots p b = refl
-      by_kind kinds.Special e q slots p b = let z : Special ≡ Directory slots p = sym q.body ∙ b in absurd (cc)
-      by_kind kinds.File e q slots p b = absurd (subst (λ z. IsBody m r.longfile (inode_root m r 1) kinds.File z) b q.body)
-      by_kind kinds.Link e q slots p b = absurd (subst (λ z. IsBody m r.longfile (inode_root m r 1) kinds.Link z) b q.body)
-
       top_directory : (e : Entry) × (entry_of t 1 ≡ Some e) × (is_directory_inode m r 1 ≡ true)
       top_directory =
           let (e, slots, at, b) = is.rooted.top in
-          (e, at, ap (λ o. is_directory_kind o) (kind_here m r t is 1 e at) ∙ ap (λ k. is_directory_kind (Some k)) (by_kind (is.each 1 e at).kind e (is.each 1 e at).holds slots 1 b))
+          (e, at, ap (λ o. is_directory_kind o) (kind_here m r t is 1 e at) ∙ ap (λ x. is_directory_kind (Some (kind_in x))) b)
 
   -- no test fails
   pub no_test_fails : finding_of m r ≡ None

@@ -4,32 +4,33 @@ use Rattle.std.specs.Prelude.{Bool, true, false, ◌&&◌, not, nat_eq, nat_lt, 
 use Rattle.std.specs.List.{list_any}
 use Rattle.std.proofs.lemmas.Bool.{eqb-true, eq-eqb, lt-ltb, or_from}
 use Rattle.qx_geom.specs.declared.root.Root.{Root}
-use Rattle.qx_records.specs.declared.kind.Kind.{Kind}
-use Rattle.qx_records.specs.declared.kind.Kind.TheVariants as kinds
 use Rattle.qx_fields.specs.Number.{number}
 use Rattle.qx_geom.proofs.Members.{Contains-cases, Contains-cons, Contains-head, in_append_cases, in_cases, in_head, in_tail}
 use Rattle.qx_geom.proofs.Truths.{and_left, and_right, not_so, not_true, or_right, true_or_false}
 use Rattle.qx_geom.specs.Lists.{all_differ, each_below, is_in}
-use Rattle.qx_model.specs.Tree.{Body, Directory, Entry, File, IsDirectory, Link, Names, NamesAt, Reached, Row, Slot, Special, Tree, Unused, down, entry_of, is_dots, named_by, slots_of, slots_of_body, slots_of_entry, top}
+use Rattle.qx_model.specs.Tree.{Body, Directory, Entry, File, IsDirectory, Link, Names, NamesAt, Reached, Row, Slot, Special, Tree, Unused, down, entry_of, is_dots, is_special_body, named_by, slots_of, slots_of_body, slots_of_entry, top}
 use Rattle.qx_nodes.specs.BlockMap.{BlockMap}
 use Rattle.qx_nodes.specs.Content.{levels_fit}
+use Rattle.qx_nodes.specs.NodeContents.{node_content}
 use Rattle.qx_nodes.specs.Visits.{visits_of}
 use Rattle.qx_records.specs.InodeRecord.{kind_of}
 use Rattle.qx_records.specs.NameRecord.{Bad, Long, RawRecord, Short}
 use Rattle.qx_records.specs.NameRecord as records
 use Rattle.qx_records.specs.NameSum.{sum_fits}
 use Rattle.qx_view.specs.declared.findings.Code.TheVariants as codes
+use Rattle.qx_view.proofs.EntryContents.{body_special, holds_body, holds_kind, kind_in}
 use Rattle.qx_view.proofs.OneTree.{parent_same}
 use Rattle.qx_view.proofs.TakenInodes.{HasParent, taken_parent}
 use Rattle.qx_view.proofs.TreeFound.{NamedAt, each_self, names_to_slots, slots_to_names}
 use Rattle.qx_view.proofs.TreeFromTests.{each}
-use Rattle.qx_view.proofs.TreeLocality.{not_special}
 use Rattle.qx_view.proofs.WalkEnds.{Named, after_cases, first, firsts, firsts-append, inodes, named_listed, new_among, next}
 use Rattle.qx_nodes.specs.LongNames.{long_name}
 use Rattle.qx_view.specs.Images.{Roots, has_inode, inode_places, raw_of, record_block}
 use Rattle.qx_model.specs.Owners.{OfInode, Owner}
 use Rattle.qx_model.specs.Rooted.{AreRows, is_plain}
-use Rattle.qx_view.specs.Reading.{HasNode, IsBody, IsEntry, IsNode, IsOfKind, IsTreeOf, long_slot, slot_of, slots_read}
+use Rattle.qx_view.specs.Entries.{IsBody, long_slot}
+use Rattle.qx_view.specs.Reading.{HasNode, IsTreeOf, reader_of, slot_of, slots_read}
+use Rattle.qx_view.specs.Sound.{is_special_inode, is_special_kind}
 use Rattle.qx_view.specs.Walk.{Met, Place, Taken, Test, Tested, first_failing, inode_mode, inode_root, inode_tests, is_directory_inode, is_directory_kind, kind_tests, listed_after, met_of, named_inode, named_inodes, new_ones, node_tests, record_tests, records_tests, row_tests, slot_name, taken_from, taken_of, visit_tests}
 
 -- each test of its own passes
@@ -282,13 +283,6 @@ records_tested m r d p node names listed (k ∷ ks) (x ∷ slots) e f =
     (subst (λ o. AllTested (records_tests m r d p node (slot_name o ++ names) (option_to_list (option_and_then named_by o) ++ listed) ks)) (sym head)
     (records_tested m r d p node (slot_name (Some x) ++ names) (option_to_list (named_by x) ++ listed) ks slots rest (facts_tail m r d p names listed x slots f)))
 
--- the kind of a directory
-kind_directory : (k : Kind) → is_directory_kind (Some k) ≡ true → k ≡ kinds.Directory
-kind_directory kinds.Directory e = refl
-kind_directory kinds.File e = absurd (cc)
-kind_directory kinds.Link e = absurd (cc)
-kind_directory kinds.Special e = absurd (cc)
-
 -- what is taken is one of the inodes that are
 pub in_inodes : (ts : List Taken) (t : Taken) → Contains ts t → is_in (inodes ts) t.inode ≡ true
 in_inodes [] t c = absurd (omega (arith, c.1))
@@ -304,49 +298,42 @@ pub record DirectoryRead (m : BlockMap) (r : Roots) (t : Tree) (n : ℕ) : Type 
 
 module _ (m : BlockMap) (r : Roots) (t : Tree) (is : IsTreeOf m r t) where
   -- an inode has the kind of its entry
-  pub kind_here : (n : ℕ) (e : Entry) (at : entry_of t n ≡ Some e) → kind_of (inode_mode m r n) ≡ Some (is.each n e at).kind
-  kind_here n e at = sym (ap (λ a. kind_of a.mode) (is.each n e at).attr) ∙ (is.each n e at).kind_is
+  pub kind_here : (n : ℕ) (e : Entry) (at : entry_of t n ≡ Some e) → kind_of (inode_mode m r n) ≡ Some (kind_in e.body)
+  kind_here n e at =
+      let i = (is.each n e at).is in
+      sym (ap (λ a. kind_of a.mode) i.attr) ∙ i.kind_is ∙ ap (λ k. Some k) (holds_kind (reader_of m r.longfile) (node_content m (inode_root m r n)) i.kind e i.holds)
+
+  -- so it is a special exactly where its entry is one
+  pub special_here : (n : ℕ) (e : Entry) → entry_of t n ≡ Some e → is_special_inode m r n ≡ is_special_body e.body
+  special_here n e at = ap (λ o. is_special_kind o) (kind_here n e at) ∙ sym (body_special e.body)
+
+  -- and unless it is one, its node holds the entry's body
+  body_here : (n : ℕ) (e : Entry) → entry_of t n ≡ Some e → is_special_body e.body ≡ false → IsBody (reader_of m r.longfile) (node_content m (inode_root m r n)) (kind_in e.body) e.body
+  body_here n e at own = let i = (is.each n e at).is in holds_body (reader_of m r.longfile) (node_content m (inode_root m r n)) i.kind e i.holds own
 
   -- a directory of the tree is read from its records
   pub directory_read : (n : ℕ) (e : Entry) → entry_of t n ≡ Some e → is_directory_inode m r n ≡ true → DirectoryRead m r t n
-  directory_read n e at dir =
-      let node : IsNode m r.longfile (inode_root m r n) kinds.Directory e = subst (λ k. IsOfKind m r.longfile (inode_root m r n) k e) (kind_directory (is.each n e at).kind (sym (ap (λ o. is_directory_kind o) (kind_here n e at)) ∙ dir)) (is.each n e at).holds in
-      by_body e.body refl node.body
+  directory_read n e at dir = by_body e.body refl (sym (ap (λ o. is_directory_kind o) (kind_here n e at)) ∙ dir) (body_here n e at)
     where
-      by_body : (b : Body) → e.body ≡ b → IsBody m r.longfile (inode_root m r n) kinds.Directory b → DirectoryRead m r t n
-      by_body (Directory slots p) body q = record { slots = slots; parent = p; slots_are = ap (λ o. slots_of_entry o) at ∙ ap (λ b. slots_of_body b) body; read = q; is = (e, slots, at, body) }
-      by_body (File c) body q = absurd q
-      by_body (Link c) body q = absurd q
-      by_body Special body q = absurd q
+      by_body : (b : Body) → e.body ≡ b → is_directory_kind (Some (kind_in b)) ≡ true → (is_special_body b ≡ false → IsBody (reader_of m r.longfile) (node_content m (inode_root m r n)) (kind_in b) b) → DirectoryRead m r t n
+      by_body (Directory slots p) body d q = record { slots = slots; parent = p; slots_are = ap (λ o. slots_of_entry o) at ∙ ap (λ b. slots_of_body b) body; read = q refl; is = (e, slots, at, body) }
+      by_body (File c) body d q = absurd (cc)
+      by_body (Link c) body d q = absurd (cc)
+      by_body Special body d q = absurd (cc)
 
   -- what a place in the tree's slots says of its directory
   pub has_slots : (d k : ℕ) (x : Slot) → slice_get (slots_of t d) k ≡ Some x → (e : Entry) × (entry_of t d ≡ Some e) × (is_directory_inode m r d ≡ true)
   has_slots d k x at = go (entry_of t d) refl at
     where
-      by_body : (c : Kind) (b : Body) → IsBody m r.longfile (inode_root m r d) c b → slice_get (slots_of_body b) k ≡ Some x → c ≡ kinds.Directory
-      by_body kinds.Directory b q at = refl
-      by_body kinds.File (Directory slots p) q at = absurd q
-      by_body kinds.File (File c) q at = absurd (cc)
-      by_body kinds.File (Link c) q at = absurd q
-      by_body kinds.File Special q at = absurd q
-      by_body kinds.Link (Directory slots p) q at = absurd q
-      by_body kinds.Link (File c) q at = absurd q
-      by_body kinds.Link (Link c) q at = absurd (cc)
-      by_body kinds.Link Special q at = absurd q
-      by_body kinds.Special (Directory slots p) q at = absurd q
-      by_body kinds.Special (File c) q at = absurd q
-      by_body kinds.Special (Link c) q at = absurd q
-      by_body kinds.Special Special q at = absurd q
-
-      by_kind : (c : Kind) (e : Entry) → IsOfKind m r.longfile (inode_root m r d) c e → slice_get (slots_of_body e.body) k ≡ Some x → c ≡ kinds.Directory
-      by_kind kinds.Special e q at = let z : slice_get (slots_of_body Special) k ≡ Some x = subst (λ b. slice_get (slots_of_body b) k ≡ Some x) q.body at in absurd (cc)
-      by_kind kinds.Directory e q at = refl
-      by_kind kinds.File e q at = by_body kinds.File e.body q.body at
-      by_kind kinds.Link e q at = by_body kinds.Link e.body q.body at
+      by_body : (b : Body) → slice_get (slots_of_body b) k ≡ Some x → is_directory_kind (Some (kind_in b)) ≡ true
+      by_body (Directory slots p) at = refl
+      by_body (File c) at = absurd (cc)
+      by_body (Link c) at = absurd (cc)
+      by_body Special at = absurd (cc)
 
       go : (o : Option Entry) → entry_of t d ≡ o → slice_get (slots_of_entry o) k ≡ Some x → (e : Entry) × (entry_of t d ≡ Some e) × (is_directory_inode m r d ≡ true)
       go None here at = absurd (cc)
-      go (Some e) here at = (e, here, ap (λ o. is_directory_kind o) (kind_here d e here) ∙ ap (λ c. is_directory_kind (Some c)) (by_kind (is.each d e here).kind e (is.each d e here).holds at))
+      go (Some e) here at = (e, here, ap (λ o. is_directory_kind o) (kind_here d e here) ∙ by_body e.body at)
 
   -- the inodes that a directory's records name
   named_are : (d n : ℕ) → is_directory_inode m r d ≡ true → named_inodes m r d ≡ filter_map (λ k. named_inode m r.longfile (raw_of m (inode_root m r d) k)) (each_below ((inode_root m r d).size / 32) (λ k. k))
@@ -491,26 +478,22 @@ module _ (m : BlockMap) (r : Roots) (t : Tree) (is : IsTreeOf m r t) where
   pub inode_tested : (u : Taken) → Contains (taken_of m r) u → AllTested (inode_tests m r u)
   inode_tested u c =
       let i : TakenIn u = taken_in u c in
-      let e : IsEntry m r u.inode i.entry = is.each u.inode i.entry i.at in
-      subst (λ o. AllTested (kind_tests m r u (inode_root m r u.inode) o)) (sym (kind_here u.inode i.entry i.at)) (go e.kind e.holds (kind_here u.inode i.entry i.at))
+      subst (λ o. AllTested (kind_tests m r u (inode_root m r u.inode) o)) (sym (kind_here u.inode i.entry i.at)) (go i.entry.body (body_here u.inode i.entry i.at) own_tested (kind_here u.inode i.entry i.at))
     where
-      owned : (k : Kind) → IsBody m r.longfile (inode_root m r u.inode) k (taken_in u c).entry.body → HasNode m r t (OfInode u.inode) (inode_root m r u.inode)
-      owned k q = ((taken_in u c).entry, (taken_in u c).at, not_special m r.longfile (inode_root m r u.inode) k (taken_in u c).entry.body q, refl)
+      own_tested : is_special_body (taken_in u c).entry.body ≡ false → AllTested (node_tests m u.inode (inode_root m r u.inode) (levels_fit m (inode_root m r u.inode)))
+      own_tested own =
+          let i : TakenIn u = taken_in u c in
+          node_tested u.inode (OfInode u.inode) (inode_root m r u.inode) (levels_fit m (inode_root m r u.inode)) (i.entry, i.at, own, refl) ((is.each u.inode i.entry i.at).levels own)
 
-      link_size : (b : Body) → IsBody m r.longfile (inode_root m r u.inode) kinds.Link b → (not ((inode_root m r u.inode).size == 0) && nat_lt (inode_root m r u.inode).size 1024) ≡ true
-      link_size (Link target) x = size_test (inode_root m r u.inode).size x.1 x.2
-      link_size (File z) x = absurd x
-      link_size (Directory z p) x = absurd x
-      link_size Special x = absurd x
-
-      go : (k : Kind) → IsOfKind m r.longfile (inode_root m r u.inode) k (taken_in u c).entry → kind_of (inode_mode m r u.inode) ≡ Some k → AllTested (kind_tests m r u (inode_root m r u.inode) (Some k))
-      go kinds.Special q kind = tt
-      go kinds.File q kind = node_tested u.inode (OfInode u.inode) (inode_root m r u.inode) (levels_fit m (inode_root m r u.inode)) (owned kinds.File q.body) q.levels
-      go kinds.Link q kind = AllTested-append (node_tests m u.inode (inode_root m r u.inode) (levels_fit m (inode_root m r u.inode))) _
-          (node_tested u.inode (OfInode u.inode) (inode_root m r u.inode) (levels_fit m (inode_root m r u.inode)) (owned kinds.Link q.body) q.levels) (link_size (taken_in u c).entry.body q.body, tt)
-      go kinds.Directory q kind =
+      go : (b : Body) → (is_special_body b ≡ false → IsBody (reader_of m r.longfile) (node_content m (inode_root m r u.inode)) (kind_in b) b)
+          → (is_special_body b ≡ false → AllTested (node_tests m u.inode (inode_root m r u.inode) (levels_fit m (inode_root m r u.inode))))
+          → kind_of (inode_mode m r u.inode) ≡ Some (kind_in b) → AllTested (kind_tests m r u (inode_root m r u.inode) (Some (kind_in b)))
+      go Special q own kind = tt
+      go (File content) q own kind = own refl
+      go (Link target) q own kind = AllTested-append (node_tests m u.inode (inode_root m r u.inode) (levels_fit m (inode_root m r u.inode))) _
+          (own refl) (size_test (inode_root m r u.inode).size (q refl).1 (q refl).2, tt)
+      go (Directory slots p) q own kind =
           let dir : is_directory_inode m r u.inode ≡ true = ap (λ o. is_directory_kind o) kind in
           let f : DirectoryRead m r t u.inode = directory_read u.inode (taken_in u c).entry (taken_in u c).at dir in
-          AllTested-append (node_tests m u.inode (inode_root m r u.inode) (levels_fit m (inode_root m r u.inode))) _
-          (node_tested u.inode (OfInode u.inode) (inode_root m r u.inode) (levels_fit m (inode_root m r u.inode)) (owned kinds.Directory q.body) q.levels)
+          AllTested-append (node_tests m u.inode (inode_root m r u.inode) (levels_fit m (inode_root m r u.inode))) _ (own refl)
           (records_tested m r u.inode u.parent (inode_root m r u.inode) [] u.listed (each_below ((inode_root m r u.inode).size / 32) (λ k. k)) f.slots (read_self u.inode f) (directory_facts u c dir))

@@ -20,7 +20,8 @@ use Rattle.qx_records.specs.InodeRecord.{kind_of}
 use Rattle.qx_view.proofs.WalkEnds.{inodes}
 use Rattle.qx_nodes.specs.LongNames.{long_name}
 use Rattle.qx_view.specs.Images.{Roots, inode_of, inode_places}
-use Rattle.qx_view.specs.Reading.{attr_of, slots_read}
+use Rattle.qx_view.specs.Entries.{attr_of}
+use Rattle.qx_view.specs.Reading.{slots_read}
 use Rattle.qx_view.specs.Walk.{Taken, inode_mode, inode_root, taken_of}
 
 -- a list of what a function gives, at a place

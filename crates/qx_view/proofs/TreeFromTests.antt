@@ -1,6 +1,6 @@
 -- Where no test of the walk fails, the blocks have a tree.
 use Rattle.std.proofs.Common.{◌≡◌, ◌≢◌, ℕ, zero, suc, ◌+◌, ◌/◌, ◌<◌, inl, inr, [], ◌∷◌, ◌++◌, refl, sym, ◌∙◌, ap, subst, arith, add-one}
-use Rattle.std.specs.Prelude.{true, false, ◌&&◌, not, nat_lt, ◌==◌, if◌then◌else◌, Option, Some, None, is_some, Contains, map, flat_map, filter_map, slice_get}
+use Rattle.std.specs.Prelude.{true, false, ◌&&◌, not, nat_lt, ◌==◌, if◌then◌else◌, Option, Some, None, is_some, Contains, map, flat_map, filter_map, slice_get, IsTrue}
 use Rattle.std.proofs.lemmas.Bool.{leb-true}
 use Rattle.qx_geom.specs.declared.root.Root.{Root}
 use Rattle.qx_records.specs.declared.kind.Kind.{Kind}
@@ -9,11 +9,11 @@ use Rattle.qx_records.specs.declared.kind.Kind.TheVariants as kinds
 use Rattle.qx_geom.proofs.Truths.{and_right, true_or_false}
 use Rattle.qx_geom.specs.Lists.{each_below, is_in}
 use Rattle.qx_geom.specs.Pointer.{absent}
-use Rattle.qx_model.specs.Tree.{Directory, Entry, IsDirectory, Names, NamesAt, Reached, Slot, down, entry_of, slots_of, slots_of_body, slots_of_entry, top}
+use Rattle.qx_model.specs.Tree.{Directory, Entry, IsDirectory, Names, NamesAt, Reached, Slot, down, entry_of, is_special_body, slots_of, slots_of_body, slots_of_entry, top}
 use Rattle.qx_nodes.specs.BlockMap.{BlockMap}
 use Rattle.qx_nodes.specs.Content.{HasSize, levels_fit}
+use Rattle.qx_nodes.specs.NodeContents.{node_content}
 use Rattle.qx_records.specs.InodeRecord.{kind_of}
-use Rattle.qx_records.specs.NameRecord as records
 use Rattle.qx_view.specs.declared.findings.Code.TheVariants as codes
 use Rattle.qx_view.proofs.DirectoryTests.{DirectoryFound, IsThere, directory_kind, directory_passes, named_passes, names_in_directory, read_self}
 use Rattle.qx_view.proofs.PassingTests.{NodePasses, Passing, SlotsPass, fresh_directory, names_differ, node_passes, passing_each, passing_parts, passing_tested, row_at}
@@ -22,7 +22,8 @@ use Rattle.qx_view.proofs.TreeFound.{NamedAt, TakenWith, body_found, entry_as, e
 use Rattle.qx_view.proofs.WalkEnds.{Named, RowsInRange, first, inodes, next, walk_closed, walk_is_least}
 use Rattle.qx_view.specs.Images.{Roots, has_inode, inode_of, inode_places, raw_of}
 use Rattle.qx_model.specs.Rooted.{AreRows, IsRooted}
-use Rattle.qx_view.specs.Reading.{IsEntry, IsOfKind, attr_of, slot_of, slots_read}
+use Rattle.qx_view.specs.Entries.{Holds, attr_of}
+use Rattle.qx_view.specs.Reading.{IsEntry, reader_of, slot_of, slots_read}
 use Rattle.qx_view.specs.Walk.{Tested, finding_of, inode_mode, inode_root, inode_tests, is_directory_inode, is_directory_kind, kind_tests, named_inode, named_inodes, node_tests, root_tests, taken_from, taken_of, tests_of, top_tests}
 
 module _ (m : BlockMap) (r : Roots) (s : HasSize m) (none : finding_of m r ≡ None) where
@@ -121,22 +122,27 @@ module _ (m : BlockMap) (r : Roots) (s : HasSize m) (none : finding_of m r ≡ N
   link_size zero e = absurd (cc)
   link_size (suc k) e = (omega arith, omega (arith, leb-true (suc (suc k)) 1024 (and_right (not (suc k == 0)) (nat_lt (suc k) 1024) e)))
 
-  -- the entry of an inode whose tests pass is of its kind
-  kind_entry : (n : ℕ) (k : Kind) (attr : Attr) (u : TakenWith (taken_of m r) n (parent_of n)) → kind_of (inode_mode m r n) ≡ Some k → IsOfKind m r.longfile (inode_root m r n) k (entry_as attr m r.longfile (inode_root m r n) (parent_of n) (Some k))
-  kind_entry n kinds.Special attr u is = record { size = refl; present = refl; body = refl }
+  -- the levels of an inode are within the bounds, unless it is a special, and its entry is of its kind
+  record IsFound (n : ℕ) (k : Kind) (e : Entry) : Type 0 where
+    pub levels : is_special_body e.body ≡ false → IsTrue (levels_fit m (inode_root m r n))
+    pub holds : Holds (reader_of m r.longfile) (node_content m (inode_root m r n)) k e
+
+  -- so it is where its tests pass
+  kind_entry : (n : ℕ) (k : Kind) (attr : Attr) (u : TakenWith (taken_of m r) n (parent_of n)) → kind_of (inode_mode m r n) ≡ Some k → IsFound n k (entry_as attr m r.longfile (inode_root m r n) (parent_of n) (Some k))
+  kind_entry n kinds.Special attr u is = record { levels = λ own. absurd (true_or_false true refl own); holds = record { size = refl; present = refl; body = refl } }
   kind_entry n kinds.Directory attr u is =
       let f : DirectoryFound m r n u.it = directory_found n u (ap (λ o. is_directory_kind o) is) in
-      record { levels = f.node.fit; size = refl; present = refl; body = f.read ∙ ap (λ z. map (λ s. Some s) z) (sym (found_slots (slots_read m r.longfile (inode_root m r n)) f.slots f.read)) }
+      record { levels = λ own. f.node.fit; holds = record { size = refl; present = refl; body = f.read ∙ ap (λ z. map (λ s. Some s) z) (sym (found_slots (slots_read m r.longfile (inode_root m r n)) f.slots f.read)) } }
   kind_entry n kinds.File attr u is =
       let p : NodePasses m (inode_root m r n) (levels_fit m (inode_root m r n)) = node_passes m u.it.inode (inode_root m r n) (levels_fit m (inode_root m r n)) (subst (λ k. Passing (kind_tests m r u.it (inode_root m r n) k)) is (kind_passes n u)) in
-      record { levels = p.fit; size = refl; present = refl; body = refl }
+      record { levels = λ own. p.fit; holds = record { size = refl; present = refl; body = refl } }
   kind_entry n kinds.Link attr u is =
       let node : Root = inode_root m r n in
       let parts : Passing (node_tests m u.it.inode node (levels_fit m node)) × Passing (Tested codes.LinkSize u.it.inode absent (not (node.size == 0) && nat_lt node.size 1024) ∷ [])
       = passing_parts (node_tests m u.it.inode node (levels_fit m node)) _ (subst (λ k. Passing (kind_tests m r u.it node k)) is (kind_passes n u)) in
       let p : NodePasses m node (levels_fit m node) = node_passes m u.it.inode node (levels_fit m node) parts.0 in
       let size : (0 < node.size) × (node.size < 1024) = link_size node.size (passing_tested codes.LinkSize u.it.inode absent (not (node.size == 0) && nat_lt node.size 1024) [] parts.1).0 in
-      record { levels = p.fit; size = refl; present = refl; body = (refl, size.0, size.1) }
+      record { levels = λ own. p.fit; holds = record { size = refl; present = refl; body = (refl, size.0, size.1) } }
 
   -- what is taken has its entry in the tree
   entry_here : (n : ℕ) → is_in (inodes (taken_of m r)) n ≡ true → entry_of (tree_found m r) n ≡ Some (entry_found m r (parent_of n) n)
@@ -149,14 +155,9 @@ module _ (m : BlockMap) (r : Roots) (s : HasSize m) (none : finding_of m r ≡ N
   entry_is n h =
       let there : IsThere m r n = all_there n h in
       let k : (k : Kind) × (kind_of (inode_mode m r n) ≡ Some k) = kind_known n h in
-      record {
-        there = there.there;
-        positive = there.positive;
-        attr = refl;
-        kind = k.0;
-        kind_is = k.1;
-        holds = subst (λ o. IsOfKind m r.longfile (inode_root m r n) k.0 (entry_as (attr_of (inode_of m r.inodes n)) m r.longfile (inode_root m r n) (parent_of n) o)) (sym k.1) (kind_entry n k.0 (attr_of (inode_of m r.inodes n)) (it_of n h) k.1);
-      }
+      let f : IsFound n k.0 (entry_found m r (parent_of n) n)
+      = subst (λ o. IsFound n k.0 (entry_as (attr_of (inode_of m r.inodes n)) m r.longfile (inode_root m r n) (parent_of n) o)) (sym k.1) (kind_entry n k.0 (attr_of (inode_of m r.inodes n)) (it_of n h) k.1) in
+      record { there = there.there; positive = there.positive; levels = f.levels; is = record { attr = refl; kind = k.0; kind_is = k.1; holds = f.holds } }
 
   -- so is each entry of the tree
   pub each : (n : ℕ) (e : Entry) → entry_of (tree_found m r) n ≡ Some e → IsEntry m r n e

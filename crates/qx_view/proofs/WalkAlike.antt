@@ -18,11 +18,11 @@ use Rattle.qx_records.specs.declared.kind.Kind.TheVariants as kinds
 use Rattle.qx_records.specs.declared.kind.Kind.{Kind}
 use Rattle.qx_view.proofs.AlikeLists.{below_members, filter_alike, filter_map_alike, filter_members, flat_map_alike, map_alike}
 use Rattle.qx_view.proofs.NodesAlike.{AgreesAt, raw_alike}
-use Rattle.qx_view.proofs.TestsFromTree.{TakenIn, kind_here, taken_in}
-use Rattle.qx_view.proofs.TreeLocality.{agrees, inode_same, longfile_reaches, not_special, record_below, slot_local}
+use Rattle.qx_view.proofs.TestsFromTree.{TakenIn, special_here, taken_in}
+use Rattle.qx_view.proofs.TreeLocality.{agrees, inode_same, longfile_reaches, record_below, slot_local}
 use Rattle.qx_view.specs.Images.{Roots, inode_of, inode_places, raw_of}
 use Rattle.qx_model.specs.Owners.{OfFurther, OfInode, OfInodes, OfLongfile}
-use Rattle.qx_view.specs.Reading.{IsHeld, IsNode, IsOfKind, IsTreeOf}
+use Rattle.qx_view.specs.Reading.{IsHeld, IsTreeOf}
 use Rattle.qx_view.specs.Sound.{is_special_inode, is_special_kind, outer_blocks, outer_nodes}
 use Rattle.qx_view.specs.Walk.{Taken, inode_mode, inode_root, is_directory_inode, is_directory_kind, listed_after, named_inode, named_inodes, new_ones, taken_from, taken_of, walked_inodes}
 
@@ -61,22 +61,13 @@ module _ (m : BlockMap) (g : ℕ → List ℕ) (r : Roots) (t : Tree) (size : Ha
 
   -- and its node agrees, if it isn't a special
   pub node_agrees : (n : ℕ) (e : Entry) → entry_of t n ≡ Some e → is_special_inode m r n ≡ false → AgreesAt m g (inode_root m r n)
-  node_agrees n e at plain = by_kind (is.each n e at).kind (sym (ap (λ o. is_special_kind o) (kind_here m r t is n e at)) ∙ plain) (is.each n e at).holds
-    where
-      by_node : (k : Kind) → IsNode m r.longfile (inode_root m r n) k e → AgreesAt m g (inode_root m r n)
-      by_node k node =
-          let own : is_special_body e.body ≡ false = not_special m r.longfile (inode_root m r n) k e.body node.body in
-          record {
-            reaches = reaches_of m (inode_root m r n) size node.levels;
-            on = agrees m g r t size is held (OfInode n) (inode_root m r n) (e, at, own, refl);
-            blocks = λ v c. is.undamaged (OfInode n) v (inode_root m r n, (e, at, own, refl), c);
-          }
-
-      by_kind : (k : Kind) → is_special_kind (Some k) ≡ false → IsOfKind m r.longfile (inode_root m r n) k e → AgreesAt m g (inode_root m r n)
-      by_kind kinds.Special plain node = absurd (cc)
-      by_kind kinds.Directory plain node = by_node kinds.Directory node
-      by_kind kinds.File plain node = by_node kinds.File node
-      by_kind kinds.Link plain node = by_node kinds.Link node
+  node_agrees n e at plain =
+      let own : is_special_body e.body ≡ false = sym (special_here m r t is n e at) ∙ plain in
+      record {
+        reaches = reaches_of m (inode_root m r n) size ((is.each n e at).levels own);
+        on = agrees m g r t size is held (OfInode n) (inode_root m r n) (e, at, own, refl);
+        blocks = λ v c. is.undamaged (OfInode n) v (inode_root m r n, (e, at, own, refl), c);
+      }
 
   -- so does the Longfile
   pub longfile_agrees : AgreesAt m g r.longfile

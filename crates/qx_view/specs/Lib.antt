@@ -3,6 +3,7 @@ pub use Rattle.qx_nodes.specs.Content
 pub use Rattle.qx_super.specs.Active
 pub use Rattle.qx_model.specs.Tree
 pub mod Images
+pub mod Entries
 pub mod Reading
 pub mod Numbers
 pub mod Walk

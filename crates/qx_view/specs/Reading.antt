@@ -1,85 +1,43 @@
 -- When a tree is what blocks mean: a relation, by cases.
-use Rattle.std.specs.Prelude.{◌≡◌, ℕ, ◌/◌, ◌<◌, false, List, [], length, map, Option, Some, None, IsTrue, if◌then◌else◌, slice_get, Contains}
+use Rattle.std.specs.Prelude.{◌≡◌, ℕ, ◌<◌, false, List, length, Option, Some, IsTrue, slice_get, Contains}
 use Rattle.std.specs.List.{list_all}
 use Rattle.qx_geom.specs.declared.root.Root.{Root}
 use Rattle.qx_geom.specs.Lists.{each_below}
 use Rattle.qx_nodes.specs.BlockMap.{BlockMap}
 use Rattle.qx_nodes.specs.Leaves.{leaves_below}
+use Rattle.qx_nodes.specs.LongNames.{long_name}
+use Rattle.qx_nodes.specs.NodeContents.{node_content}
 use Rattle.qx_nodes.specs.Visits.{Visit, visits_of, present_of}
-use Rattle.qx_nodes.specs.Content.{content_of, levels_fit, root_fits}
-use Rattle.qx_records.specs.declared.inode.Inode.{Inode}
-use Rattle.qx_records.specs.declared.kind.Kind.{Kind}
-use Rattle.qx_records.specs.declared.kind.Kind.TheVariants as kinds
-use Rattle.qx_records.specs.InodeRecord.{kind_of}
-use Rattle.qx_records.specs.NameRecord.{RawRecord, Short, Long, Bad}
-use Rattle.qx_records.specs.NameRecord as records
-use Rattle.qx_records.specs.NameSum.{sum_fits}
-use Rattle.qx_model.specs.declared.attr.Attr.{Attr}
+use Rattle.qx_nodes.specs.Content.{levels_fit, root_fits}
+use Rattle.qx_records.specs.NameRecord.{RawRecord}
 use Rattle.qx_model.specs.Owners.{Owner, OfInodes, OfLongfile, OfFurther, OfInode}
 use Rattle.qx_model.specs.Rooted.{IsRooted}
-use Rattle.qx_model.specs.Tree.{Slot, Unused, Row, Body, Directory, File, Link, Special, Entry, Tree, entry_of, is_special_body}
+use Rattle.qx_model.specs.Tree.{Slot, Entry, Tree, entry_of, is_special_body}
 use Rattle.qx_super.specs.Superblock.{Superblock}
 use Rattle.qx_super.specs.Active.{active_super}
-use Rattle.qx_nodes.specs.LongNames.{long_name}
-use Rattle.qx_view.specs.Images.{Roots, main_roots, image_blocks, inode_places, inode_of, has_inode, raw_of}
+use Rattle.qx_view.specs.Entries.{IsEntryOf, Reader, slot_by, slots_in}
+use Rattle.qx_view.specs.Images.{Roots, main_roots, image_blocks, inode_places, inode_of, has_inode}
 
 -- ---- entries
 
--- the attributes of an inode
-abbrev pub attr_of : Inode → Attr
-attr_of i = record { mode = i.mode; uid = i.uid; gid = i.gid; ftime = i.ftime; mtime = i.mtime; atime = i.atime; ctime = i.ctime }
-
--- a long record, with the name that its leaf has
-abbrev pub long_slot : ℕ → ℕ → ℕ → Option (List ℕ) → Option Slot
-long_slot inode number sum None = None
-long_slot inode number sum (Some name) = if sum_fits sum name then Some (Row inode name (Some number)) else None
+-- how the nodes of an image are read, whose Longfile this is
+abbrev pub reader_of : BlockMap → Root → Reader
+reader_of m longfile = record { order = m.order; blocksize = m.size; names = long_name m longfile }
 
 -- what a record says: none where it is bad, or where its long name is missing or has another checksum
 abbrev pub slot_of : BlockMap → Root → RawRecord → Option Slot
-slot_of m longfile records.Unused = Some Unused
-slot_of m longfile (Short inode name) = Some (Row inode name None)
-slot_of m longfile (Long inode number sum) = long_slot inode number sum (long_name m longfile number)
-slot_of m longfile (Bad count) = None
+slot_of m longfile raw = slot_by (long_name m longfile) raw
 
--- all the records of a directory
+-- what all the records of a directory say
 abbrev pub slots_read : BlockMap → Root → Root → List (Option Slot)
-slots_read m longfile node = each_below (node.size / 32) (λ k. slot_of m longfile (raw_of m node k))
+slots_read m longfile node = slots_in (reader_of m longfile) (node_content m node)
 
--- what a node of a kind holds; a special has no node
-abbrev pub IsBody : BlockMap → Root → Root → Kind → Body → Type 0
-IsBody m longfile node kinds.Directory (Directory slots parent) = slots_read m longfile node ≡ map (λ s. Some s) slots
-IsBody m longfile node kinds.File (File content) = content ≡ content_of m node
-IsBody m longfile node kinds.Link (Link target) = (target ≡ content_of m node) × (0 < node.size) × (node.size < 1024)
-IsBody m longfile node kind body = ⊥
-
--- an entry whose node this is
-pub record IsNode (m : BlockMap) (longfile node : Root) (kind : Kind) (e : Entry) : Type 0 where
-  pub levels : IsTrue (levels_fit m node)
-  pub size : e.size ≡ node.size
-  pub present : e.present ≡ present_of m node
-  pub body : IsBody m longfile node kind e.body
-
--- a special's entry
-pub record IsNodeless (e : Entry) : Type 0 where
-  pub size : e.size ≡ 0
-  pub present : e.present ≡ []
-  pub body : e.body ≡ Special
-
--- an entry of a kind, whose inode has this node
-abbrev pub IsOfKind : BlockMap → Root → Root → Kind → Entry → Type 0
-IsOfKind m longfile node kinds.Directory e = IsNode m longfile node kinds.Directory e
-IsOfKind m longfile node kinds.File e = IsNode m longfile node kinds.File e
-IsOfKind m longfile node kinds.Link e = IsNode m longfile node kinds.Link e
-IsOfKind m longfile node kinds.Special e = IsNodeless e
-
--- the entry of inode n
+-- the entry of inode n: it has a place, its node's levels are within bounds, and it and its node's content are the entry
 pub record IsEntry (m : BlockMap) (r : Roots) (n : ℕ) (e : Entry) : Type 0 where
   pub there : IsTrue (has_inode r.inodes n)
   pub positive : 0 < n
-  pub attr : e.attr ≡ attr_of (inode_of m r.inodes n)
-  pub kind : Kind
-  pub kind_is : kind_of e.attr.mode ≡ Some kind
-  pub holds : IsOfKind m r.longfile (inode_of m r.inodes n).root kind e
+  pub levels : is_special_body e.body ≡ false → IsTrue (levels_fit m (inode_of m r.inodes n).root)
+  pub is : IsEntryOf (reader_of m r.longfile) (inode_of m r.inodes n) (node_content m (inode_of m r.inodes n).root) e
 
 -- ---- positions
 

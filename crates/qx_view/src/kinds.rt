@@ -4,7 +4,8 @@ ghost use Rattle.std.specs.List.{range_with_len};
 ghost use Rattle.qx_fields.specs.declared.order.Order.TheVariants as orders;
 ghost use Rattle.qx_records.specs.InodeRecord.{inode_in};
 ghost use Rattle.qx_view.specs.KindsImage.{kinds_blocks, kinds_roots, kinds_tree};
-ghost use Rattle.qx_view.specs.Reading.{IsTreeOf, attr_of};
+ghost use Rattle.qx_view.specs.Entries.{attr_of};
+ghost use Rattle.qx_view.specs.Reading.{IsTreeOf};
 ghost use Rattle.qx_view.specs.Walk.{finding_of};
 
 /// The attributes of the inode whose bytes are 0, 1, 2 and so on, in both orders.

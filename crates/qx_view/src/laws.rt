@@ -1,5 +1,5 @@
 //! Laws of what an image means.
-ghost use Rattle.std.specs.Prelude.{◌≡◌, ◌⊎◌, ◌↔◌, ◌+◌, ◌*◌, ◌<◌, ◌≤◌, ℕ, ◌/◌, ◌%◌, IsTrue, List, [], Contains, count_by, flat_map, ◌==◌, length, Some, None};
+ghost use Rattle.std.specs.Prelude.{◌≡◌, ◌⊎◌, ◌↔◌, ◌+◌, ◌*◌, ◌<◌, ◌≤◌, ℕ, ◌/◌, ◌%◌, IsTrue, List, [], Contains, count_by, flat_map, ◌==◌, length, Option, Some, None};
 ghost use Rattle.qx_geom.specs.declared.system.SystemTree.{SystemTree};
 ghost use Rattle.qx_geom.specs.declared.area.Which.{Which};
 ghost use Rattle.qx_geom.specs.declared.geometry.Geometry.{Geometry};
@@ -8,19 +8,34 @@ ghost use Rattle.qx_geom.specs.Lists.{Distinct};
 ghost use Rattle.qx_nodes.specs.BlockMap.{BlockMap, with_bytes};
 ghost use Rattle.qx_nodes.specs.Content.{HasSize, leaf_bytes, levels_fit};
 ghost use Rattle.qx_geom.specs.declared.root.Root.{Root};
+ghost use Rattle.qx_nodes.specs.NodeContents.{IsSameContent, NodeContent};
+ghost use Rattle.qx_records.specs.declared.inode.Inode.{Inode};
 ghost use Rattle.qx_records.specs.NameRecord.{Unused};
 ghost use Rattle.qx_records.specs.Slots.{record_at};
-ghost use Rattle.qx_model.specs.Tree.{Reached, Tree, links_of};
+ghost use Rattle.qx_model.specs.Tree.{Entry, Reached, Tree, links_of};
 ghost use Rattle.qx_super.specs.declared.choice.Pick.TheVariants as picks;
 ghost use Rattle.qx_super.specs.Active.{active_area, active_super};
 ghost use Rattle.qx_super.specs.Superblock.{Superblock};
 ghost use Rattle.qx_view.specs.declared.findings.Finding.{Finding};
 ghost use Rattle.qx_view.specs.declared.reasons.Foreign.{Foreign as Why};
+ghost use Rattle.qx_view.specs.Entries.{IsEntryOf, Reader};
 ghost use Rattle.qx_view.specs.Images.{IsInHole, Roots, all_records, block_bytes, image_blocks, main_roots, present_records, raw_of};
 ghost use Rattle.qx_view.specs.Reading.{IsHeld, IsTreeOf};
 ghost use Rattle.qx_view.specs.Usage.{met_blocks};
 ghost use Rattle.qx_view.specs.Walk.{Place, finding_of, inodes_named_in, named_inode, named_inodes, record_tests, records_tests, walked_inodes};
 ghost use Rattle.qx_view.specs.Sound.{Clean, Damaged, Foreign, IsDamaged, IsForeign, IsSound, long_number, numbers_named_in, verdict_of, written_geometry};
+
+/// An inode is the same entry with the same content of its node, wherever that stands.
+pub fn an_entry_is_read_by_its_content()
+    ensures { (r : Reader) (i : Inode) (a b : NodeContent) (e : Entry) → 0 < r.blocksize → IsSameContent r.blocksize a b
+        → IsEntryOf r i a e → IsEntryOf r i b e }
+{}
+
+/// And with the same long names, wherever those stand.
+pub fn names_are_read_alike()
+    ensures { (r : Reader) (names : ℕ → Option (List ℕ)) (i : Inode) (c : NodeContent) (e : Entry) → ((n : ℕ) → names n ≡ r.names n)
+        → IsEntryOf r i c e → IsEntryOf (record r { names = names }) i c e }
+{}
 
 /// Roots have one tree at most.
 pub fn roots_have_one_tree()

@@ -1,7 +1,7 @@
 //! What an image means: its tree, whether it is sound, and the checker's verdict.
 //!
 //! Stands on `qx_nodes`, `qx_records` and `qx_super` for what bytes say, and on `qx_model` for the tree; the walk, the mount and the snapshots stand on it.
-//! Its contract: the definitions of `specs/Reading.antt`, `Walk.antt` and `Sound.antt`, and the laws below about them.
+//! Its contract: the definitions of `specs/Entries.antt`, `Reading.antt`, `Walk.antt` and `Sound.antt`, and the laws below about them.
 //! It keeps no state and takes no memory; of its code only the numbers of codes and reasons run.
 #![tactic(auto)]
 
@@ -27,8 +27,9 @@ pub use images::{
 pub use kinds::{the_attributes_of_counted_bytes, the_tree_of_each_kind};
 pub use laws::{
     a_sound_image_has_a_place_for_each_inode, a_tree_means_no_finding,
-    clean_images_are_the_sound_ones, damaged_images_have_a_finding, foreign_images_have_a_tree,
-    held_blocks_decide_the_tree, no_finding_means_a_tree, records_in_holes_say_nothing,
+    an_entry_is_read_by_its_content, clean_images_are_the_sound_ones,
+    damaged_images_have_a_finding, foreign_images_have_a_tree, held_blocks_decide_the_tree,
+    names_are_read_alike, no_finding_means_a_tree, records_in_holes_say_nothing,
     roots_have_one_tree, the_active_half_is_held, the_records_of_a_leaf,
     the_records_of_present_leaves_say_all, the_walk_comes_to_the_reached_inodes,
     the_walk_counts_the_links, the_walk_meets_the_held_blocks, what_soundness_depends_on,

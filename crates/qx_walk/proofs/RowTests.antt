@@ -13,7 +13,8 @@ use Rattle.qx_view.specs.declared.findings.Code.TheVariants as codes
 use Rattle.qx_nodes.specs.LongNames.{long_name}
 use Rattle.qx_view.specs.Images.{Roots, has_inode}
 use Rattle.qx_model.specs.Rooted.{is_plain}
-use Rattle.qx_view.specs.Reading.{long_slot, slot_of}
+use Rattle.qx_view.specs.Entries.{long_slot}
+use Rattle.qx_view.specs.Reading.{slot_of}
 use Rattle.qx_view.specs.Walk.{Place, Test, Tested, first_failing, inode_mode, is_directory_inode, listed_after, new_ones, record_tests, row_tests, slot_name}
 use Rattle.qx_walk.proofs.KeptLists.{one_listed}
 use Rattle.qx_walk.proofs.RowsInOrder.{listed_same}

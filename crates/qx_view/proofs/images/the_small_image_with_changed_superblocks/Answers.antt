@@ -1,5 +1,4 @@
 use Rattle.std.proofs.Common.{ap}
-use Rattle.qx_super.specs.declared.choice.Pick.TheVariants as picks
 use Rattle.qx_view.specs.Sound.{verdict_at}
 use Rattle.qx_geom.specs.declared.area.Which.TheVariants.{First, Second}
 use Rattle.qx_view.proofs.SmallImages.{both_changed, first_changed, first_changed-sound, second_changed, second_changed-sound}
