@@ -10,10 +10,11 @@ use Rattle.std.proofs.lemmas.List.Elements.{Contains-get_or}
 use Rattle.qx_geom.proofs.ImagesAndFilters.{Contains-in, in_Contains}
 use Rattle.qx_geom.specs.declared.root.Root.{Root}
 use Rattle.qx_geom.specs.Lists.{IsAscending, is_in}
+use Rattle.qx_nodes.proofs.ContentLocality.{leaf_lies, reaches_of}
 use Rattle.qx_nodes.specs.BlockMap.{BlockMap}
 use Rattle.qx_nodes.specs.Content.{HasSize, bytes_at_leaf, leaf_bytes}
 use Rattle.qx_nodes.specs.Leaves.{leaves_below}
-use Rattle.qx_tables.proofs.LeafLists.{leaf_listed, leaf_unlisted, lies_at, listed_number, number_listed, numbers_of}
+use Rattle.qx_tables.proofs.LeafLists.{leaf_listed, leaf_unlisted, listed_number, number_listed, numbers_of}
 use Rattle.qx_tables.proofs.LeafRuns.{ascends, run_at}
 use Rattle.qx_pointers.proofs.BlockRanges.{range_within}
 use Rattle.qx_pointers.specs.declared.node.LeafPlace.{LeafPlace}
@@ -89,7 +90,7 @@ filled_all m node leaves bytes size a h i low = elim (cases_Bool (is_in (numbers
   | inr f ↦
       let none : Contains (numbers_of leaves) i → ⊥ = λ c. absurd (let t : is_in (numbers_of leaves) i ≡ true = in_Contains (numbers_of leaves) i c in cc) in
       h.others i low (λ k before is. none (subst (Contains (numbers_of leaves)) is (number_listed leaves (leaf_in leaves k) (Contains-get_or leaves k _ before))))
-      ∙ sym (ap (bytes_at_leaf m) (leaf_unlisted m node leaves i a (lies_at m node i size a.fits low) none))
+      ∙ sym (ap (bytes_at_leaf m) (leaf_unlisted m node leaves i a (leaf_lies m node i (reaches_of m node size a.fits) low) none))
 ]
 
 -- leaves that are put in their places leave the others

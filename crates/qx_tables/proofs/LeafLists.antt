@@ -1,20 +1,16 @@
 -- The list of a node's present leaves, and what the paths to its leaves give.
 use Rattle.std.proofs.Common.{◌≡◌, ℕ, zero, suc, ◌+◌, ◌-◌, ◌*◌, ◌/◌, ◌^◌, ◌<◌, inl, inr, List, [], ◌∷◌, ◌++◌, refl, sym, ◌∙◌, ap, subst, arith}
-use Rattle.std.specs.Prelude.{Bool, true, false, ◌||◌, ◌==◌, nat_le, nat_lt, if◌then◌else◌, Contains, filter, map, IsTrue, slice_index_or}
-use Rattle.std.proofs.Math.Nat.{mul-div_cancel}
+use Rattle.std.specs.Prelude.{Bool, true, false, ◌||◌, ◌==◌, nat_le, nat_lt, if◌then◌else◌, Contains, filter, map, slice_index_or}
 use Rattle.std.proofs.lemmas.Bool.{cases_lt, eqb-true, eq-eqb, ne_eqb}
 use Rattle.std.proofs.lemmas.List.Elements.{filter-append}
-use Rattle.qx_geom.proofs.LevelCounts.{ceil_div-below}
 use Rattle.qx_geom.proofs.Members.{parts-Contains}
 use Rattle.qx_geom.specs.declared.root.Root.{Root}
 use Rattle.qx_geom.specs.Lists.{IsAscending, parts_below}
 use Rattle.qx_geom.specs.Pointer.{absent, per_block}
 use Rattle.qx_geom.proofs.ImagesAndFilters.{Contains-image}
-use Rattle.qx_nodes.proofs.ContentLocality.{lies_below, reaches_of}
 use Rattle.qx_nodes.proofs.LeafPaths.{node_leaf_met}
 use Rattle.qx_nodes.proofs.MetLeaves.{node_leaf_found, present_ascends, under_low}
 use Rattle.qx_nodes.specs.BlockMap.{BlockMap, word}
-use Rattle.qx_nodes.specs.Content.{HasSize, levels_fit}
 use Rattle.qx_nodes.specs.Leaves.{Block, Damage, Hole, Leaf, leaf_of, leaves_below}
 use Rattle.qx_nodes.specs.Visits.{IsMet, LiesBelow, Visit, is_leaf, present_of, visits_of, visits_under}
 use Rattle.qx_view.proofs.AlikeLists.{filter_members, members_filter, members_map}
@@ -83,10 +79,6 @@ listed_below m node leaves p a c =
     let part : ℕ → List Visit = λ j. visits_under m (leaves_below m node) node.levels j (slice_index_or node.pointers j absent) in
     let from : (j : ℕ) × (j < 16) × Contains (part j) v.0 = parts-Contains 16 part v.0 v.1 in
     subst (λ (q : LeafPlace). q.index < leaves_below m node) v.3 (under_low m (leaves_below m node) node.levels from.0 (slice_index_or node.pointers from.0 absent) v.0 from.2 v.2)
-
--- a leaf below the size of a node whose levels fit lies below it
-pub lies_at : (m : BlockMap) (node : Root) (i : ℕ) → HasSize m → IsTrue (levels_fit m node) → i < leaves_below m node → LiesBelow m node i
-lies_at m node i size fits low = subst (λ k. LiesBelow m node k) (mul-div_cancel i size.size) (lies_below m node (i * m.size) (reaches_of m node size fits) (ceil_div-below node.size m.size i size.size low))
 
 -- ---- the numbers ascend, also where a block has no room for a pointer
 
