@@ -57,7 +57,7 @@ step_serials s (Some p) is f h = go (is_last_step p) refl
 
 pub moves_serials : (moment : ℕ) (ms : List Move) (s : Machine) → MayMove moment s ms → HasSerials s → HasSerials (after_moves moment s ms)
 moves_serials moment [] s may h = h
-moves_serials moment (Begin ∷ ms) s may h = moves_serials moment ms (begun moment s) may.2 (begun_serials moment s may.1 h)
+moves_serials moment (Begin ∷ ms) s may h = moves_serials moment ms (begun moment s) may.3 (begun_serials moment s may.1 h)
 moves_serials moment (Step ∷ ms) s may h = moves_serials moment ms (stepped s s.frozen) may.1 (step_serials s s.frozen refl h.frozen h)
 
 -- ---- edits

@@ -1,6 +1,6 @@
--- The moves of a turn come where they may: each begin where nothing is in progress and there is something to keep, each step where a snapshot is.
+-- The moves of a turn come where they may: each begin where nothing is in progress, there is something to keep and no session holds, each step where a snapshot is.
 use Rattle.std.proofs.Common.{◌≡◌, ℕ, zero, suc, ◌-◌, ◌<◌, ◌≤◌, ◌⊎◌, inl, inr, List, [], ◌∷◌, ◌++◌, take, refl, sym, ap, ◌∙◌, subst, arith}
-use Rattle.std.specs.Prelude.{Bool, true, false, not, ◌&&◌, ◌||◌, Option, Some, None, Result, Ok, Err, is_none, is_some, min, nat_le, replicate, slice_get, ◌==◌, if◌then◌else◌}
+use Rattle.std.specs.Prelude.{Bool, true, false, count_by, not, ◌&&◌, ◌||◌, Option, Some, None, Result, Ok, Err, is_none, is_some, min, nat_le, replicate, slice_get, ◌==◌, if◌then◌else◌}
 use Rattle.std.proofs.lemmas.Bool.{eqb-true, leb-false, leb-true}
 use Rattle.qx_geom.proofs.Truths.{and_left, and_right}
 use Rattle.qx_model.specs.declared.operation.Op.{Op}
@@ -12,13 +12,14 @@ use Rattle.qx_model.specs.declared.turn.Act.TheVariants as act
 use Rattle.qx_model.specs.declared.turn.VolEvent.{VolEvent}
 use Rattle.qx_model.specs.Requests.{changes}
 use Rattle.qx_model.specs.Paths.{Itself, inode_at}
-use Rattle.qx_model.specs.Machine.{Frozen, Machine, directory_of, hold_count, without_holds}
+use Rattle.qx_model.specs.Machine.{Frozen, Machine, Session, directory_of, hold_count, without_holds}
 use Rattle.qx_model.specs.Snapshots.{Begin, Move, Step, after_moves, background_limit, begun, due_of, finishing, interval, is_last_step, is_time_to_begin, step_to, stepped, steps_wanted, whole_snapshot}
 use Rattle.qx_model.specs.Decisions.{Attempt, after_finish, after_more, after_snapshot, attempt, first_attempt, is_lacking}
 use Rattle.qx_model.specs.Plans.{Plan, Stays, changing_directory, directory_at, lacks_session, operating, plan, plan_of, planned, refused, snapshot_if_changed, sync_moves, syncing, syncing_path}
 use Rattle.qx_model.specs.Next.{ActFault, ActResult, Faults, MayCome, MayFail, MayFailAfter, MayFailInAct, MemoryFails, act_result, background_moves, begun_if, moves_made, plan_under, steps_made, timed_begin}
 use Rattle.qx_model.specs.TreeReads.{is_between, operation_reads, path_reads, reads_after, reads_tree}
 use Rattle.qx_model.specs.MoveOrder.{MayMove}
+use Rattle.qx_model.proofs.KeptSettings.{moves_leave}
 use Rattle.qx_model.proofs.MoveRuns.{after_moves-append}
 
 -- ---- moves one after another
@@ -26,7 +27,7 @@ use Rattle.qx_model.proofs.MoveRuns.{after_moves-append}
 -- moves that may come, and then more
 may_append : (moment : ℕ) (ms ns : List Move) (s : Machine) → MayMove moment s ms → MayMove moment (after_moves moment s ms) ns → MayMove moment s (ms ++ ns)
 may_append moment [] ns s h k = k
-may_append moment (Begin ∷ ms) ns s h k = (h.0, h.1, may_append moment ms ns (begun moment s) h.2 k)
+may_append moment (Begin ∷ ms) ns s h k = (h.0, h.1, h.2, may_append moment ms ns (begun moment s) h.3 k)
 may_append moment (Step ∷ ms) ns s h k = (h.0, may_append moment ms ns (stepped s s.frozen) h.1 k)
 
 -- the first of them
@@ -34,7 +35,7 @@ pub may_take : (moment : ℕ) (n : ℕ) (ms : List Move) (s : Machine) → MayMo
 may_take moment zero [] s h = tt
 may_take moment zero (m ∷ ms) s h = tt
 may_take moment (suc n) [] s h = tt
-may_take moment (suc n) (Begin ∷ ms) s h = (h.0, h.1, may_take moment n ms (begun moment s) h.2)
+may_take moment (suc n) (Begin ∷ ms) s h = (h.0, h.1, h.2, may_take moment n ms (begun moment s) h.3)
 may_take moment (suc n) (Step ∷ ms) s h = (h.0, may_take moment n ms (stepped s s.frozen) h.1)
 
 -- ---- steps
@@ -97,8 +98,12 @@ finishing_done moment s h = go (due_of s.frozen) refl
     go (suc n) is = finished moment n s is
 
 -- a whole snapshot may be made where none is in progress
-whole_may : (moment : ℕ) (s : Machine) → s.frozen ≡ None → s.changed ≡ true → MayMove moment s (whole_snapshot s)
-whole_may moment s none is = (none, is, steps_may moment (steps_wanted s) (begun moment s) (omega arith))
+whole_may : (moment : ℕ) (s : Machine) → s.frozen ≡ None → s.changed ≡ true → hold_count s ≡ 0 → MayMove moment s (whole_snapshot s)
+whole_may moment s none is free = (none, is, free, steps_may moment (steps_wanted s) (begun moment s) (omega arith))
+
+-- moves leave the holds
+moves_hold : (moment : ℕ) (ms : List Move) (s : Machine) → hold_count (after_moves moment s ms) ≡ hold_count s
+moves_hold moment ms s = let left = moves_leave moment ms s in ap (count_by (λ (x : Session). x.holds)) left.sessions
 
 -- ---- attempts
 
@@ -144,8 +149,10 @@ snapshot_may s k moment o a f = go (is_lacking a.decision && ((hold_count a.mach
         → MayMove moment s (let x : Attempt = if b then after_more k moment o a (whole_snapshot a.machine) else a in x.moves)
     go true is =
         let none = f.none (and_left (is_lacking a.decision) ((hold_count a.machine == 0) && a.machine.changed) is) in
-        let kept = and_right (hold_count a.machine == 0) a.machine.changed (and_right (is_lacking a.decision) ((hold_count a.machine == 0) && a.machine.changed) is) in
-        let more = more_may s k moment o a (whole_snapshot a.machine) f.attempt (whole_may moment a.machine none kept) in
+        let both = and_right (is_lacking a.decision) ((hold_count a.machine == 0) && a.machine.changed) is in
+        let kept = and_right (hold_count a.machine == 0) a.machine.changed both in
+        let free = eqb-true (hold_count a.machine) 0 (and_left (hold_count a.machine == 0) a.machine.changed both) in
+        let more = more_may s k moment o a (whole_snapshot a.machine) f.attempt (whole_may moment a.machine none kept free) in
         more.may
     go false is = let at = f.attempt in at.may
 
@@ -158,12 +165,12 @@ operating_may s k moment o h = go (changes o && s.volume.is_read_only)
     go true = tt
     go false = snapshot_may s k moment o (after_finish k moment o (first_attempt s k moment o)) (finish_may s k moment o h)
 
-sync_may : (moment : ℕ) (s : Machine) → HasStep s.frozen → MayMove moment s (sync_moves moment s)
-sync_may moment s h =
+sync_may : (moment : ℕ) (s : Machine) → HasStep s.frozen → hold_count s ≡ 0 → MayMove moment s (sync_moves moment s)
+sync_may moment s h free =
     may_append moment (finishing s) (snapshot_if_changed (after_moves moment s (finishing s))) s (steps_may moment (due_of s.frozen) s (omega arith)) (go (after_moves moment s (finishing s)).changed refl)
   where
     go : (b : Bool) → (after_moves moment s (finishing s)).changed ≡ b → MayMove moment (after_moves moment s (finishing s)) (if b then whole_snapshot (after_moves moment s (finishing s)) else [])
-    go true is = whole_may moment (after_moves moment s (finishing s)) (finishing_done moment s h) is
+    go true is = whole_may moment (after_moves moment s (finishing s)) (finishing_done moment s h) is (moves_hold moment (finishing s) s ∙ free)
     go false is = tt
 
 -- the moves of a plan, from where it begins
@@ -181,11 +188,11 @@ operating_from s k moment o h = go (changes o && s.volume.is_read_only) (operati
 
 syncing_may : (moment : ℕ) (s : Machine) → HasStep s.frozen → MayPlan moment (syncing moment s)
 unfolding MayPlan
-syncing_may moment s h = go (hold_count s == 0)
+syncing_may moment s h = go (hold_count s == 0) refl
   where
-    go : (b : Bool) → MayPlan moment (if b then record { from = s; moves = sync_moves moment s; reply = reply.Done; ending = Stays } else refused s (refusal.Held (hold_count s)))
-    go true = sync_may moment s h
-    go false = tt
+    go : (b : Bool) → (hold_count s == 0) ≡ b → MayPlan moment (if b then record { from = s; moves = sync_moves moment s; reply = reply.Done; ending = Stays } else refused s (refusal.Held (hold_count s)))
+    go true is = sync_may moment s h (eqb-true (hold_count s) 0 is)
+    go false is = tt
 
 directory_may : (s : Machine) (k moment : ℕ) (r : Result ℕ Refusal) → MayPlan moment (changing_directory s k r)
 unfolding MayPlan
@@ -264,7 +271,8 @@ timed_may s moment time =
     let free = and_right (not s.volume.is_read_only) _ time in
     let none = and_left (is_none s.frozen) ((hold_count s == 0) && (s.changed && nat_le interval (moment - s.last_begin))) free in
     let rest = and_right (hold_count s == 0) (s.changed && nat_le interval (moment - s.last_begin)) (and_right (is_none s.frozen) ((hold_count s == 0) && (s.changed && nat_le interval (moment - s.last_begin))) free) in
-    (none_is s.frozen none, and_left s.changed (nat_le interval (moment - s.last_begin)) rest, tt)
+    let holds = and_left (hold_count s == 0) (s.changed && nat_le interval (moment - s.last_begin)) (and_right (is_none s.frozen) ((hold_count s == 0) && (s.changed && nat_le interval (moment - s.last_begin))) free) in
+    (none_is s.frozen none, and_left s.changed (nat_le interval (moment - s.last_begin)) rest, eqb-true (hold_count s) 0 holds, tt)
 
 -- ---- want of memory
 
@@ -274,7 +282,7 @@ begins_at_none moment zero [] s may h = absurd (cc)
 begins_at_none moment (suc n) [] s may h = absurd (cc)
 begins_at_none moment zero (Begin ∷ ms) s may h = may.0
 begins_at_none moment zero (Step ∷ ms) s may h = absurd (cc)
-begins_at_none moment (suc n) (Begin ∷ ms) s may h = begins_at_none moment n ms (begun moment s) may.2 h
+begins_at_none moment (suc n) (Begin ∷ ms) s may h = begins_at_none moment n ms (begun moment s) may.3 h
 begins_at_none moment (suc n) (Step ∷ ms) s may h = begins_at_none moment n ms (stepped s s.frozen) may.1 h
 
 -- and an operation is decided there, or before all moves

@@ -28,7 +28,7 @@ pub fn nothing_changes_at_the_last_serial()
         → s.volume.is_read_only ≡ false → is_serial_end s ≡ true → turn.reply ≡ reply.Refused refusal.SerialEnd }
 {}
 
-/// A begin comes where no snapshot is in progress and there is something to keep, and a step where one is in progress: by itself, in an act and behind it.
+/// A begin comes where no snapshot is in progress, there is something to keep and no session holds, and a step where one is in progress: by itself, in an act and behind it. The end drops the holds first.
 pub fn moves_come_where_they_may()
     ensures timed { (s : Machine) (moment : ℕ) → is_time_to_begin s moment ≡ true → MayMove moment s (Begin ∷ []) }
     ensures act { (f : Faults) (s : Machine) (e : VolEvent) → HasSerials s → MayMove e.moment (plan_under f s e).from (moves_made f.act (plan_under f s e)) }
