@@ -39,8 +39,8 @@ pub use laws::{an_inode_with_links_is_named, an_operation_keeps_the_tree_rooted}
 pub use notices::{Notice, Notices};
 pub use operation::Op;
 pub use operation_examples::{
-    files_of_a_directory, links_that_lead_on, the_leaves_that_are_written, the_order_of_refusals,
-    the_times_of_a_file,
+    files_of_a_directory, links_that_lead_on, the_attributes_of_each_kind,
+    the_leaves_that_are_written, the_order_of_refusals, the_times_of_a_file,
 };
 pub use position_examples::{
     the_ids_of_a_first_file, the_need_of_a_fill, the_positions_of_small_trees,
@@ -58,11 +58,12 @@ pub use touch_laws::{
 };
 pub use turn::{Act, Turn, VolEvent};
 pub use turn_examples::{
-    a_file_with_holes, a_fill_that_wants_a_snapshot, a_fill_under_a_hold, a_first_file,
-    a_mount_for_reading, a_removal_under_a_hold, a_sync_that_fails_once, a_timed_snapshot,
+    a_cut_under_a_hold, a_directory_that_is_removed, a_file_with_holes,
+    a_fill_that_wants_a_snapshot, a_fill_under_a_hold, a_first_file, a_mount_for_reading,
+    a_removal_under_a_hold, a_sync_that_fails_once, a_timed_snapshot, blocks_of_three_copies,
     directories_that_move, faults_of_one_turn, faults_that_may_come, faults_that_never_come,
     holds_of_two_sessions, links_that_lead_nowhere, names_by_length, names_of_one_file,
-    the_last_inode, the_last_serial, the_last_serial_but_one,
+    the_last_inode, the_last_serial, the_last_serial_but_one, the_time_between_snapshots,
 };
 pub use turn_laws::{
     a_mount_for_reading_changes_no_tree, a_refusal_leaves_tree_and_sessions,

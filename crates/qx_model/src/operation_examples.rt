@@ -39,6 +39,16 @@ pub fn the_times_of_a_file()
         }) ∷ [] }
 {}
 
+/// Another owner and group, a directory's own attributes, and those of a link, which are its own too.
+pub fn the_attributes_of_each_kind()
+    ensures { replies_of made (at_first (op.Create (codes "a")) ∷ at_moment 1001 (op.Chown (codes "a") 5 6) ∷ at_first (op.Stat (codes "a"))
+        ∷ at_first (op.Mkdir (codes "d")) ∷ at_first (op.Mkdir (codes "d/e")) ∷ at_first (op.Stat (codes "d"))
+        ∷ at_first (op.Symlink (codes "abc") (codes "l")) ∷ at_first (op.Stat (codes "l")) ∷ [])
+        ≡ reply.Done ∷ reply.Done ∷ reply.Stat (record (file_view 2 0 1) { attr = record (file_attr 1000 1000 1000 1001) { uid = 5; gid = 6 } })
+        ∷ reply.Done ∷ reply.Done ∷ reply.Stat (record { kind = 1; inode = 3; size = 512; links = 1; attr = record (file_attr 1000 1000 1000 1000) { mode = 0x41ED } })
+        ∷ reply.Done ∷ reply.Stat (record { kind = 3; inode = 5; size = 3; links = 1; attr = record (file_attr 1000 1000 1000 1000) { mode = 0xA1FF } }) ∷ [] }
+{}
+
 /// Sixteen links are followed, and a seventeenth isn't. A link at the end of a path is read itself.
 pub fn links_that_lead_on()
     ensures { replies_of (made_with 32) (at_first (op.Create (codes "a")) ∷ links_in_turn 17 97

@@ -36,6 +36,20 @@ pub fn a_removal_under_a_hold()
         ∷ refuses (refusal.NoSpace 1 16) ∷ ok ∷ with_snapshot 4 ok ∷ df_says 84 14 4 ∷ with_snapshot 5 ok ∷ [] }
 {}
 
+/// What cuts a file or removes a directory may go into the reserve too.
+pub fn a_cut_under_a_hold()
+    ensures { turns_of (small 1000) (create (codes "a") ∷ do_op (op.Mkdir (codes "d")) ∷ fill (codes "a") 33792 ∷ sync ∷ by 0 act.Hold ∷ do_op (op.Truncate (codes "a") 600) ∷ df ∷ create (codes "b")
+        ∷ do_op (op.Truncate (codes "a") 100) ∷ df ∷ do_op (op.RemoveDir (codes "d")) ∷ df ∷ [])
+        ≡ ok ∷ ok ∷ ok ∷ with_snapshot 3 ok ∷ ok ∷ ok ∷ df_says 16 13 3 ∷ refuses (refusal.NoSpace 1 16)
+        ∷ ok ∷ df_says 16 13 3 ∷ ok ∷ df_says 15 14 3 ∷ [] }
+{}
+
+/// The blocks of the working, the frozen and the durable copy are all held, until the snapshot is done.
+pub fn blocks_of_three_copies()
+    ensures { turns_of (small 0) (by_at 0 (act.Op (op.Create (codes "a"))) ∷ by_at 0 (act.Op (op.Write (codes "a") 0 (codes "x"))) ∷ by_at 10 act.Tick ∷ by_at 10 (act.Op (op.Remove (codes "a"))) ∷ by_at 10 act.Df ∷ by_at 10 act.Df ∷ [])
+        ≡ ok ∷ ok ∷ ok ∷ ok ∷ with_snapshot 3 (df_says 82 15 2) ∷ df_says 83 15 3 ∷ [] }
+{}
+
 /// A byte far past the end: five levels of pointer blocks, and holes below. The greatest end is 2^48.
 pub fn a_file_with_holes()
     ensures { turns_of (small 1000) (create (codes "a") ∷ df ∷ do_op (op.Write (codes "a") (2 ^ 41) (codes "x")) ∷ df
@@ -47,6 +61,12 @@ pub fn a_file_with_holes()
 pub fn names_by_length()
     ensures { turns_of (small 1000) (create (letters 27) ∷ df ∷ create (letters 28) ∷ df ∷ create (letters 510) ∷ df ∷ create (letters 511) ∷ df ∷ [])
         ≡ ok ∷ df_says 84 14 2 ∷ ok ∷ df_says 83 13 2 ∷ ok ∷ df_says 82 12 2 ∷ refuses refusal.NameTooLong ∷ df_says 82 12 2 ∷ [] }
+{}
+
+/// A session whose directory was removed has none, also where its inode is taken again; absolute paths lead on.
+pub fn a_directory_that_is_removed()
+    ensures { turns_of (small 1000) (do_op (op.Mkdir (codes "d")) ∷ by 1 (act.Cd (codes "d")) ∷ do_op (op.RemoveDir (codes "d")) ∷ do_op (op.Mkdir (codes "e")) ∷ by 1 (act.Op (op.List (codes "."))) ∷ by 1 (act.Cd (codes "..")) ∷ by 1 (act.Op (op.List (codes "/"))) ∷ by 1 (act.Cd (codes "/e")) ∷ by 1 (act.Op (op.List (codes ".."))) ∷ [])
+        ≡ ok ∷ ok ∷ ok ∷ ok ∷ refuses refusal.NoEntry ∷ refuses refusal.NoEntry ∷ says (reply.Rows (record { inode = 2; name = codes "e" } ∷ [])) ∷ ok ∷ says (reply.Rows (record { inode = 2; name = codes "e" } ∷ [])) ∷ [] }
 {}
 
 /// A directory moves while another session stands in it; what may not move, and what may not be removed.
@@ -90,11 +110,21 @@ pub fn a_timed_snapshot()
         ≡ ok ∷ ok ∷ df_says 84 14 2 ∷ with_snapshot 3 (df_says 84 14 2) ∷ df_says 85 14 3 ∷ [] }
 {}
 
-/// A link to itself, and what isn't a link, a file or a directory.
+/// Ten seconds go from one begin to the next, also from one that was asked for. A clock that goes back is no time, and a hold keeps snapshots away.
+pub fn the_time_between_snapshots()
+    ensures timed { turns_of (small 0) (by_at 0 (act.Op (op.Create (codes "a"))) ∷ by_at 10 act.Tick ∷ by_at 11 act.Tick ∷ by_at 12 act.Tick ∷ by_at 13 (act.Op (op.Create (codes "b"))) ∷ by_at 19 act.Tick ∷ by_at 20 act.Tick ∷ by_at 21 act.Tick ∷ by_at 22 act.Tick ∷ [])
+        ≡ ok ∷ ok ∷ ok ∷ with_snapshot 3 ok ∷ ok ∷ ok ∷ ok ∷ ok ∷ with_snapshot 4 ok ∷ [] }
+    ensures asked { turns_of (small 0) (by_at 0 (act.Op (op.Create (codes "a"))) ∷ by_at 5 act.Sync ∷ by_at 6 (act.Op (op.Create (codes "b"))) ∷ by_at 14 act.Tick ∷ by_at 15 act.Tick ∷ by_at 16 act.Tick ∷ by_at 17 act.Tick ∷ [])
+        ≡ ok ∷ with_snapshot 3 ok ∷ ok ∷ ok ∷ ok ∷ ok ∷ with_snapshot 4 ok ∷ [] }
+    ensures back { turns_of (small 1000) (by_at 1000 (act.Op (op.Create (codes "a"))) ∷ by_at 0 act.Tick ∷ by_at 1 act.Tick ∷ by_at 2 act.Tick ∷ []) ≡ replicate 4 ok }
+    ensures held { turns_of (small 0) (by_at 0 act.Hold ∷ by_at 0 (act.Op (op.Create (codes "a"))) ∷ by_at 10 act.Tick ∷ by_at 11 act.Tick ∷ by_at 12 act.Tick ∷ []) ≡ replicate 5 ok }
+{}
+
+/// A link to itself, and what isn't a link, a file or a directory. A link itself can be synced.
 pub fn links_that_lead_nowhere()
     ensures { turns_of (small 1000) (do_op (op.Symlink (codes "loop") (codes "loop")) ∷ do_op (op.Read (codes "loop") 0 1) ∷ do_op (op.ReadLink (codes "loop")) ∷ do_op (op.Stat (codes "x"))
-        ∷ do_op (op.Read (codes "/") 0 1) ∷ do_op (op.List (codes "loop/x")) ∷ do_op (op.ReadLink (codes "/")) ∷ [])
-        ≡ ok ∷ refuses refusal.LinkLoop ∷ says (reply.Target (codes "loop")) ∷ refuses refusal.NoEntry ∷ refuses refusal.IsDir ∷ refuses refusal.LinkLoop ∷ refuses refusal.WrongKind ∷ [] }
+        ∷ do_op (op.Read (codes "/") 0 1) ∷ do_op (op.List (codes "loop/x")) ∷ do_op (op.ReadLink (codes "/")) ∷ by 0 (act.Fsync (codes "loop")) ∷ [])
+        ≡ ok ∷ refuses refusal.LinkLoop ∷ says (reply.Target (codes "loop")) ∷ refuses refusal.NoEntry ∷ refuses refusal.IsDir ∷ refuses refusal.LinkLoop ∷ refuses refusal.WrongKind ∷ with_snapshot 3 ok ∷ [] }
 {}
 
 /// Fifteen files take all inodes, and a second block of the directory.
