@@ -44,6 +44,7 @@ pub mod SteadyTurns
 pub mod KeptSettings
 pub mod RenewingTurns
 pub mod GrowingIds
+pub mod HeldIds
 pub mod MatchedIds
 pub mod AlikeMachines
 pub mod AlikePlans

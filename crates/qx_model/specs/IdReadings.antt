@@ -1,5 +1,6 @@
 -- Ids read as blocks: which block each id of a machine stands for.
-use Rattle.std.specs.Prelude.{◌≡◌, ℕ, ◌<◌, ◌⊎◌, Option, Some, None}
+use Rattle.std.specs.Prelude.{◌≡◌, ℕ, ◌<◌, ◌⊎◌, ◌↔◌, List, Contains, Option, Some, None}
+use Rattle.qx_geom.specs.Lists.{Distinct}
 use Rattle.qx_model.specs.Edits.{Edit}
 use Rattle.qx_model.specs.TreePositions.{HasPosition, Position}
 use Rattle.qx_model.specs.TreeTouch.{rank_in}
@@ -24,6 +25,11 @@ IsInSnapshots s i = HasId s.volume.blocksize s.durable.copy i ⊎ HasFrozenId s.
 -- a block of one of the copies has it
 abbrev pub IsUsed : Machine → ℕ → Type 0
 IsUsed s i = HasId s.volume.blocksize s.working i ⊎ IsInSnapshots s i
+
+-- these are the ids in use, each once
+pub record AreIdsInUse (s : Machine) (ids : List ℕ) : Type 0 where
+  pub once : Distinct ids
+  pub used : (i : ℕ) → Contains ids i ↔ IsUsed s i
 
 -- no two ids in use are read as one block
 abbrev pub IsReading : Machine → (ℕ → ℕ) → Type 0

@@ -1,9 +1,9 @@
 //! Laws of ids: they stay apart, what is free and what is held make all, and they can be read as blocks.
-ghost use Rattle.std.specs.Prelude.{◌≡◌, ◌<◌, ◌≤◌, ◌⊎◌, ◌+◌, ℕ, None, length};
+ghost use Rattle.std.specs.Prelude.{◌≡◌, ◌<◌, ◌≤◌, ◌⊎◌, ◌+◌, ℕ, List, None, length};
 ghost use Rattle.qx_model.specs.declared.turn.Turn.{Turn};
 ghost use Rattle.qx_model.specs.declared.turn.VolEvent.{VolEvent};
 ghost use Rattle.qx_model.specs.Edits.{Edit};
-ghost use Rattle.qx_model.specs.IdReadings.{IsInSnapshots, IsPlaced, IsReading, IsUsed, ReadsPlaced};
+ghost use Rattle.qx_model.specs.IdReadings.{AreIdsInUse, IsInSnapshots, IsPlaced, IsReading, IsUsed, ReadsPlaced};
 ghost use Rattle.qx_model.specs.Ids.{HasIds, HasRoom};
 ghost use Rattle.qx_model.specs.Machine.{Machine, Volume, start_of};
 ghost use Rattle.qx_model.specs.NamedIds.{AreSameButIds, DifferInIds, ReadAlike};
@@ -34,6 +34,12 @@ pub fn what_is_free_is_what_is_not_held()
     ensures start { (v : Volume) (t : Tree) (serial moment : ℕ) → v.free_without_ids ≡ None → length (positions_of v.blocksize t) ≤ v.user → HasRoom (start_of v t serial moment) }
     ensures turn { (s t : Machine) (e : VolEvent) (turn : Turn) → HasRoom s → Next s e turn t → HasRoom t }
     ensures all { (s : Machine) → HasRoom s → free_count s + held_count s ≡ s.volume.user }
+{}
+
+/// What is held is what is in use: as many blocks are held as there are ids of blocks of the working, the durable and the frozen copy, each counted once.
+pub fn what_is_held_is_what_is_in_use()
+    ensures some { (s : Machine) → (ids : List ℕ) × AreIdsInUse s ids }
+    ensures count { (s : Machine) (ids : List ℕ) → AreIdsInUse s ids → length ids ≡ held_count s }
 {}
 
 /// After a turn the working copy is as it was; or an operation edited it, and its ids are new exactly at the positions that took a fresh block, touched ones that are new or not private, and are kept at all others.

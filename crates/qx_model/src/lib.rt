@@ -33,7 +33,7 @@ pub use fault_laws::{
 pub use id_laws::{
     ids_are_never_used_again, ids_stay_apart, names_of_ids_are_never_seen,
     placed_blocks_can_be_read, the_ids_after_an_edit, what_is_free_is_what_is_not_held,
-    what_is_read_alike_differs_in_names,
+    what_is_held_is_what_is_in_use, what_is_read_alike_differs_in_names,
 };
 pub use laws::{an_inode_with_links_is_named, an_operation_keeps_the_tree_rooted};
 pub use notices::{Notice, Notices};
