@@ -100,6 +100,10 @@ file_attr ftime mtime atime ctime = record { mode = 0x81A4; uid = 0; gid = 0; ft
 abbrev pub file_view : ℕ → ℕ → ℕ → StatView
 file_view n size links = record { kind = 2; inode = n; size = size; links = links; attr = file_attr 1000 1000 1000 1000 }
 
+-- what is said of a directory with one leaf: its inode and its links; its attributes are these, but for the mode, which is 0755
+abbrev pub directory_view : ℕ → ℕ → Attr → StatView
+directory_view n links attr = record { kind = 1; inode = n; size = 512; links = links; attr = record attr { mode = 0x41ED } }
+
 -- ---- the volume
 
 -- its numbers

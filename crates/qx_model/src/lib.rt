@@ -39,8 +39,9 @@ pub use laws::{an_inode_with_links_is_named, an_operation_keeps_the_tree_rooted}
 pub use notices::{Notice, Notices};
 pub use operation::Op;
 pub use operation_examples::{
-    files_of_a_directory, links_that_lead_on, the_attributes_of_each_kind,
-    the_leaves_that_are_written, the_order_of_refusals, the_times_of_a_file,
+    files_of_a_directory, links_that_lead_on, rows_of_one_inode, the_attributes_of_each_kind,
+    the_bytes_of_a_file, the_leaves_that_are_written, the_order_of_refusals, the_times_of_a_file,
+    the_times_of_directories,
 };
 pub use position_examples::{
     the_ids_of_a_first_file, the_need_of_a_fill, the_positions_of_small_trees,

@@ -63,10 +63,10 @@ pub fn names_by_length()
         ≡ ok ∷ df_says 84 14 2 ∷ ok ∷ df_says 83 13 2 ∷ ok ∷ df_says 82 12 2 ∷ refuses refusal.NameTooLong ∷ df_says 82 12 2 ∷ [] }
 {}
 
-/// A session whose directory was removed has none, also where its inode is taken again; absolute paths lead on.
+/// A session whose directory was removed has none, also where its inode is taken again; absolute paths lead on, and a file is no directory.
 pub fn a_directory_that_is_removed()
-    ensures { turns_of (small 1000) (do_op (op.Mkdir (codes "d")) ∷ by 1 (act.Cd (codes "d")) ∷ do_op (op.RemoveDir (codes "d")) ∷ do_op (op.Mkdir (codes "e")) ∷ by 1 (act.Op (op.List (codes "."))) ∷ by 1 (act.Cd (codes "..")) ∷ by 1 (act.Op (op.List (codes "/"))) ∷ by 1 (act.Cd (codes "/e")) ∷ by 1 (act.Op (op.List (codes ".."))) ∷ [])
-        ≡ ok ∷ ok ∷ ok ∷ ok ∷ refuses refusal.NoEntry ∷ refuses refusal.NoEntry ∷ says (reply.Rows (record { inode = 2; name = codes "e" } ∷ [])) ∷ ok ∷ says (reply.Rows (record { inode = 2; name = codes "e" } ∷ [])) ∷ [] }
+    ensures { turns_of (small 1000) (do_op (op.Mkdir (codes "d")) ∷ by 15 (act.Cd (codes "d")) ∷ do_op (op.RemoveDir (codes "d")) ∷ do_op (op.Mkdir (codes "e")) ∷ by 15 (act.Op (op.List (codes "."))) ∷ by 15 (act.Cd (codes "..")) ∷ by 15 (act.Op (op.List (codes "/"))) ∷ by 15 (act.Cd (codes "/e")) ∷ create (codes "f") ∷ by 15 (act.Cd (codes "/f")) ∷ by 15 (act.Op (op.List (codes ".."))) ∷ [])
+        ≡ ok ∷ ok ∷ ok ∷ ok ∷ refuses refusal.NoEntry ∷ refuses refusal.NoEntry ∷ says (reply.Rows (record { inode = 2; name = codes "e" } ∷ [])) ∷ ok ∷ ok ∷ refuses refusal.NotDir ∷ says (reply.Rows (record { inode = 2; name = codes "e" } ∷ record { inode = 3; name = codes "f" } ∷ [])) ∷ [] }
 {}
 
 /// A directory moves while another session stands in it; what may not move, and what may not be removed.
@@ -130,8 +130,8 @@ pub fn links_that_lead_nowhere()
 /// Fifteen files take all inodes, and a second block of the directory.
 pub fn the_last_inode()
     ensures { turns_of (small 1000) (create (codes "a") ∷ create (codes "b") ∷ create (codes "c") ∷ create (codes "d") ∷ create (codes "e") ∷ create (codes "f") ∷ create (codes "g") ∷ create (codes "h")
-        ∷ create (codes "i") ∷ create (codes "j") ∷ create (codes "k") ∷ create (codes "l") ∷ create (codes "m") ∷ create (codes "n") ∷ create (codes "o") ∷ create (codes "p") ∷ df ∷ [])
-        ≡ replicate 15 ok ++ refuses refusal.NoInodes ∷ df_says 83 0 2 ∷ [] }
+        ∷ create (codes "i") ∷ create (codes "j") ∷ create (codes "k") ∷ create (codes "l") ∷ create (codes "m") ∷ create (codes "n") ∷ create (codes "o") ∷ create (codes "p") ∷ create (codes "a") ∷ df ∷ [])
+        ≡ replicate 15 ok ++ refuses refusal.NoInodes ∷ refuses refusal.Exists ∷ df_says 83 0 2 ∷ [] }
 {}
 
 /// Holds of two sessions.
