@@ -25,7 +25,7 @@ pub use script_examples::{
     a_script_of_two_sessions, a_script_under_a_hold, a_script_with_a_timed_snapshot,
     a_script_with_holes, lines_of_a_script, lines_without_a_reading,
 };
-pub use text_examples::the_texts_of_replies;
+pub use text_examples::{the_texts_of_refusals, the_texts_of_replies};
 pub use texts::print_short;
 
 #[cfg(test)]

@@ -7,7 +7,7 @@ ghost use Rattle.qx_model.specs.declared.turn.Act.TheVariants as act;
 ghost use Rattle.qx_words.specs.Lines.{line_by};
 ghost use Rattle.qx_words.specs.Reading.{bad, line_from};
 
-/// `ls` alone, a session with an escaped blank and the greatest count, modes, times, the most bytes that a fill puts, and the end.
+/// `ls` alone, a session with an escaped blank and the greatest count, modes, owners, times, the most bytes that a fill puts, names in their order, and the end.
 pub fn lines_that_are_read()
     ensures here { line_from (codes "ls") ≡ Ok (line_by 0 (act.Op (op.List (codes ".")))) }
     ensures session { line_from (codes "@12 cat a\\20b 5 65536") ≡ Ok (line_by 12 (act.Op (op.Read (codes "a b") 5 65536))) }
@@ -15,8 +15,12 @@ pub fn lines_that_are_read()
     ensures either_case { line_from (codes "cd \\2F\\2f") ≡ Ok (line_by 0 (act.Cd (codes "//"))) }
     ensures mode { line_from (codes "chmod a 17") ≡ Ok (line_by 0 (act.Op (op.Chmod (codes "a") 15))) }
     ensures zeros { line_from (codes "chmod a 0644") ≡ Ok (line_by 0 (act.Op (op.Chmod (codes "a") 420))) }
+    ensures owner { line_from (codes "chown a 5 6") ≡ Ok (line_by 0 (act.Op (op.Chown (codes "a") 5 6))) }
     ensures times { line_from (codes "utime a 0 4294967295") ≡ Ok (line_by 0 (act.Op (op.Utime (codes "a") 0 4294967295))) }
     ensures filled { line_from (codes "fill a 0 281474976710656 255") ≡ Ok (line_by 0 (act.Op (op.Fill (codes "a") 0 281474976710656 255))) }
+    ensures link { line_from (codes "ln a b") ≡ Ok (line_by 0 (act.Op (op.Link (codes "a") (codes "b")))) }
+    ensures symlink { line_from (codes "symlink a b") ≡ Ok (line_by 0 (act.Op (op.Symlink (codes "a") (codes "b")))) }
+    ensures removed { line_from (codes "rm a") ≡ Ok (line_by 0 (act.Op (op.Remove (codes "a")))) }
     ensures quit { line_from (codes "quit") ≡ Ok (line_by 0 act.End) }
 {}
 

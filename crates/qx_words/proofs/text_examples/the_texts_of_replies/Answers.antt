@@ -28,6 +28,10 @@ pub returns-clause-sticky : goal.returns-clause-sticky
 unfolding digits last_text mode_text notice_text refusal_text row_text space_text stat_text times_text turn_text word_text
 returns-clause-sticky c = refl
 
+pub returns-clause-link : goal.returns-clause-link
+unfolding digits last_text mode_text notice_text refusal_text row_text space_text stat_text times_text turn_text word_text
+returns-clause-link c = refl
+
 pub returns-clause-held : goal.returns-clause-held
 unfolding digits last_text mode_text notice_text refusal_text row_text space_text stat_text times_text turn_text word_text
 returns-clause-held c = refl
