@@ -7,6 +7,7 @@ use Rattle.qx_geom.specs.Pointer.{ceil_div}
 use Rattle.qx_geom.proofs.Truths.{true_or_false}
 use Rattle.qx_outside.specs.Trail.{resized}
 use Rattle.qx_path.specs.PathParts.{PathParts}
+use Rattle.qx_geom.specs.Room.{greatest_end}
 use Rattle.qx_model.specs.declared.attr.Attr.{Attr}
 use Rattle.qx_model.specs.declared.operation.Op.{Op}
 use Rattle.qx_model.specs.declared.operation.Op.TheVariants as op
@@ -22,7 +23,7 @@ use Rattle.qx_model.specs.Paths.{Followed, Itself, Named, Place, inode_at, named
 use Rattle.qx_model.specs.Edits.{Edit, Setting, StandsLive, add_row, attr_changed, new_inode, new_link, unchanged, with_attr}
 use Rattle.qx_model.specs.Effects.{Answers, Edits, Effect}
 use Rattle.qx_model.specs.Answering.{FileAt, content_of_body, file_at, file_in, list, read, read_link, row_view, stat, stat_view, target_of_body}
-use Rattle.qx_model.specs.Contents.{change_attr, cut_leaves, greatest_end, rewriting, truncate, with_mode, with_owner, with_times, write, written_at}
+use Rattle.qx_model.specs.Contents.{change_attr, cut_leaves, rewriting, truncate, with_mode, with_owner, with_times, write, written_at}
 use Rattle.qx_model.specs.NewNames.{create, empty_file, link, made_at, mkdir, new_place, symlink}
 use Rattle.qx_model.specs.LostNames.{RowAt, moved_onto, moved_to, refuse_onto, remove, remove_dir, rename, rename_to, replace, row_at, without_row}
 use Rattle.qx_model.specs.Operate.{operate}

@@ -7,6 +7,7 @@ use Rattle.qx_path.specs.declared.fault.PathFault.TheVariants as faults
 use Rattle.qx_path.specs.PathParts.{PathParts, last_name, path_of}
 use Rattle.qx_geom.specs.Pointer.{ceil_div}
 use Rattle.qx_outside.specs.Trail.{resized}
+use Rattle.qx_geom.specs.Room.{greatest_end}
 use Rattle.qx_model.specs.declared.attr.Attr.{Attr}
 use Rattle.qx_model.specs.declared.operation.Op.{Op}
 use Rattle.qx_model.specs.declared.operation.Op.TheVariants as op
@@ -23,7 +24,7 @@ use Rattle.qx_model.specs.Effects.{Answers, Edits, Effect, done, effect_reply, r
 use Rattle.qx_model.specs.Answering.{FileAt, content_of_body, file_at, file_in, list, read, read_link, row_view, stat, stat_view, target_of_body}
 use Rattle.qx_model.specs.NewNames.{create, empty_file, link, made_at, mkdir, new_place, symlink}
 use Rattle.qx_model.specs.LostNames.{RowAt, moved_onto, moved_to, refuse_into, refuse_onto, remove, remove_dir, rename, rename_to, replace, row_at, without_row}
-use Rattle.qx_model.specs.Contents.{change_attr, cut_leaves, greatest_end, rewriting, truncate, with_mode, with_owner, with_times, write, written_at}
+use Rattle.qx_model.specs.Contents.{change_attr, cut_leaves, rewriting, truncate, with_mode, with_owner, with_times, write, written_at}
 use Rattle.qx_model.specs.Operate.{operate}
 use Rattle.qx_model.specs.Faults.{is_fault_refusal, is_fault_reply}
 

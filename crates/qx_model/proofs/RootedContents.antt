@@ -1,6 +1,7 @@
 -- Operations that only read, and those on contents and attributes, leave a tree rooted.
 use Rattle.std.proofs.Common.{◌≡◌, ℕ, ◌+◌, List, [], ◌∷◌, length, refl, sym, ap, ◌∙◌, subst}
 use Rattle.std.specs.Prelude.{Bool, true, false, Option, Some, None, Result, Ok, Err, ok_or, nat_lt}
+use Rattle.qx_geom.specs.Room.{greatest_end}
 use Rattle.qx_model.specs.declared.attr.Attr.{Attr}
 use Rattle.qx_model.specs.declared.refusal.Refusal.{Refusal}
 use Rattle.qx_model.specs.declared.refusal.Refusal.TheVariants as refusal
@@ -12,7 +13,7 @@ use Rattle.qx_model.specs.Paths.{Followed, inode_at}
 use Rattle.qx_model.specs.Edits.{Edit, Setting, altering, content_changed, unchanged, with_attr}
 use Rattle.qx_model.specs.Effects.{Answers, Edits, Effect}
 use Rattle.qx_model.specs.Answering.{FileAt, content_of_body, file_at, file_in}
-use Rattle.qx_model.specs.Contents.{change_attr, cut_leaves, greatest_end, rewriting, truncate, with_content, write, written_at}
+use Rattle.qx_model.specs.Contents.{change_attr, cut_leaves, rewriting, truncate, with_content, write, written_at}
 use Rattle.qx_model.proofs.Outlines.{alike_rooted, altered_outlines, body_outline, outline_of}
 
 -- what is done leaves a tree rooted

@@ -1,11 +1,12 @@
 -- Operations on the bytes of a file and on attributes: Write, Fill, Truncate, Chmod, Chown and Utime, each in the order of its refusals.
-use Rattle.std.specs.Prelude.{ℕ, zero, suc, ◌+◌, ◌*◌, ◌-◌, ◌^◌, ◌/◌, ◌%◌, max, not, ◌&&◌, List, [], ◌∷◌, length, None, Result, Ok, nat_lt, ◌==◌, if◌then◌else◌}
+use Rattle.std.specs.Prelude.{ℕ, zero, suc, ◌+◌, ◌*◌, ◌-◌, ◌/◌, ◌%◌, max, not, ◌&&◌, List, [], ◌∷◌, length, None, Result, Ok, nat_lt, ◌==◌, if◌then◌else◌}
 use Rattle.std.specs.List.{range_with_len}
 use Rattle.qx_bytes.specs.Ranges.{put_at}
 use Rattle.qx_outside.specs.Trail.{resized}
 use Rattle.qx_geom.specs.Lists.{is_in}
 use Rattle.qx_geom.specs.Pointer.{ceil_div}
 use Rattle.qx_geom.specs.Positions.{present_after}
+use Rattle.qx_geom.specs.Room.{greatest_end}
 use Rattle.qx_model.specs.declared.attr.Attr.{Attr}
 use Rattle.qx_model.specs.declared.refusal.Refusal.{Refusal}
 use Rattle.qx_model.specs.declared.refusal.Refusal.TheVariants.{FileTooBig}
@@ -18,10 +19,6 @@ use Rattle.qx_model.specs.Edits.{Edit, Setting, altering, content_changed, uncha
 use Rattle.qx_model.specs.Effects.{Edits, Effect, done}
 
 -- ---- bytes
-
--- the greatest end of a file, in bytes
-abbrev pub greatest_end : ℕ
-greatest_end = 2 ^ 48
 
 -- a file with other bytes, some of its leaves written
 abbrev pub with_content : ℕ → ℕ → List ℕ → List ℕ → Entry → Entry
