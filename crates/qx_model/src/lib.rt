@@ -68,8 +68,8 @@ pub use turn_examples::{
 };
 pub use turn_laws::{
     a_mount_for_reading_changes_no_tree, a_refusal_leaves_tree_and_sessions,
-    a_turn_finds_the_trees_of_its_two_states, a_turn_without_faults_is_a_function,
-    trees_stay_rooted,
+    a_turn_finds_the_trees_of_its_two_states, a_turn_tells_at_most_three_things,
+    a_turn_without_faults_is_a_function, trees_stay_rooted,
 };
 pub use whole_laws::{
     a_whole_tree_has_each_position_once, an_operation_keeps_long_names_in_use,
