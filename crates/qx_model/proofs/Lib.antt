@@ -34,6 +34,7 @@ pub mod DoneEdits
 pub mod WholeEntries
 pub mod WholeRows
 pub mod WholeOperations
+pub mod KeptEntries
 pub mod WholeNames
 pub mod WholeNumbers
 pub mod WholeTrees
@@ -50,6 +51,7 @@ pub mod AlikeMachines
 pub mod AlikePlans
 pub mod AlikeTurns
 pub mod WholeEmpty
+pub mod BoundedTrees
 pub mod QuietMounts
 pub mod FaultlessAnswers
 pub mod PathRefusals

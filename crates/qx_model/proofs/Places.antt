@@ -1,13 +1,14 @@
 -- The place that a path names: a directory of the tree, and a plain name that isn't reserved.
-use Rattle.std.proofs.Common.{◌≡◌, ℕ, ◌<◌, inl, inr, List, length, refl, sym, ap, ◌∙◌, subst, arith, get_or}
+use Rattle.std.proofs.Common.{◌≡◌, ℕ, zero, suc, ◌<◌, ◌≤◌, inl, inr, List, length, refl, sym, ap, ◌∙◌, subst, arith, get_or}
 use Rattle.std.specs.Prelude.{IsTrue, IfSome, Bool, true, false, not, ◌&&◌, Option, Some, None, Result, Ok, Err, ok_or, cond, bytes_eq, is_some, nat_lt, nat_le, ◌==◌, if◌then◌else◌, option_and_then, slice_get, unwrap_or}
 use Rattle.std.specs.List.{list_any, last_or, position_or_len}
-use Rattle.std.proofs.lemmas.Bool.{cases_lt, lt-ltb}
+use Rattle.std.proofs.lemmas.Bool.{cases_lt, leb-true, lt-ltb, ltb-false, ltb-true}
 use Rattle.std.proofs.lemmas.List.Sums.{fails_before_first, passes_at_first}
 use Rattle.std.proofs.lemmas.Slice.Eq.{bytes_eq-Decides}
 use Rattle.std.proofs.lemmas.Option.{slice_get-get_or, slice_get_within, get_or_from_slice_get}
-use Rattle.qx_geom.proofs.Truths.{and_right, true_or_false}
+use Rattle.qx_geom.proofs.Truths.{and_left, and_right, true_or_false}
 use Rattle.qx_path.specs.declared.fault.PathFault.{PathFault}
+use Rattle.qx_path.specs.declared.fault.PathFault.TheVariants as fault
 use Rattle.qx_path.specs.PathParts.{PathParts, is_name, last_name, parts_of, path_of}
 use Rattle.qx_path.specs.Names.{is_empty, names_in}
 use Rattle.qx_path.proofs.NamesOfPaths.{name-last_or, names-of_path}
@@ -24,6 +25,8 @@ use Rattle.qx_model.proofs.Outlines.{slot_in}
 pub record IsPlace (t : Tree) (p : Place) : Type 0 where
   pub directory : is_directory t p.directory ≡ true
   pub plain : IsTrue (is_plain p.name)
+  pub some : 0 < length p.name
+  pub most : length p.name ≤ 510
   pub not_dots : is_dots p.name ≡ false
 
 -- ---- parts of a definition by `do`
@@ -69,14 +72,45 @@ parts_are : (bytes : List ℕ) (p : PathParts) → path_of bytes ≡ Ok p → pa
 parts_are bytes p h =
     path_parts (is_empty bytes) (nat_lt 1023 (length bytes)) (list_any (λ byte. byte == 0) bytes) (list_any (λ name. nat_lt 510 (length name)) (names_in bytes)) _ _ _ _ (parts_of bytes) p h
 
--- the last name of a path is plain
-last_plain : (bytes : List ℕ) (p : PathParts) (name : List ℕ) → path_of bytes ≡ Ok p → last_name p ≡ Some name → IsTrue (is_plain name)
-last_plain bytes p name h is =
+-- a parsed path has 1 to 1,023 bytes
+pub path_long : (bytes : List ℕ) (p : PathParts) → parsed bytes ≡ Ok p → (0 < length bytes) × (length bytes < 1024)
+path_long bytes p h = go (is_empty bytes) (nat_lt 1023 (length bytes)) refl refl (parsed_is bytes p h)
+  where
+    positive : (n : ℕ) → (n == 0) ≡ false → 0 < n
+    positive zero h = absurd (cc)
+    positive (suc n) h = omega arith
+
+    go : (a b : Bool) → is_empty bytes ≡ a → nat_lt 1023 (length bytes) ≡ b
+        → (if a then Err fault.Empty else if b then Err fault.TooLong else if list_any (λ byte. byte == 0) bytes then Err fault.ZeroByte else if list_any (λ name. nat_lt 510 (length name)) (names_in bytes) then Err fault.NameTooLong else Ok (parts_of bytes)) ≡ Ok p
+        → (0 < length bytes) × (length bytes < 1024)
+    go true b empty long h = absurd (cc)
+    go false true empty long h = absurd (cc)
+    go false false empty long h = (positive (length bytes) empty, omega (arith, ltb-false 1023 (length bytes) long))
+
+-- the last name of a path is one
+last_is_name : (bytes : List ℕ) (p : PathParts) (name : List ℕ) → path_of bytes ≡ Ok p → last_name p ≡ Some name → is_name name ≡ true
+last_is_name bytes p name h is =
     let same = parts_are bytes p h in
     let all = names-of_path bytes (h ∙ ap (λ x. Ok x) (sym same)) in
     let some : last_or None (names_in bytes) ≡ Some name = ap last_name same ∙ is in
-    let good : is_name name ≡ true = subst (λ o. IfSome o (λ name. is_name name ≡ true)) some (name-last_or None (names_in bytes) tt all) in
-    and_right (nat_lt 0 (length name) && nat_le (length name) 510) (is_plain name) good
+    subst (λ o. IfSome o (λ name. is_name name ≡ true)) some (name-last_or None (names_in bytes) tt all)
+
+-- so it is plain
+name_plain : (name : List ℕ) → is_name name ≡ true → IsTrue (is_plain name)
+name_plain name good = and_right (nat_lt 0 (length name) && nat_le (length name) 510) (is_plain name) good
+
+-- and has 1 to 510 bytes
+name_some : (name : List ℕ) → is_name name ≡ true → 0 < length name
+name_some name good = ltb-true 0 (length name) (and_left (nat_lt 0 (length name)) (nat_le (length name) 510) (and_left (nat_lt 0 (length name) && nat_le (length name) 510) (is_plain name) good))
+
+name_most : (name : List ℕ) → is_name name ≡ true → length name ≤ 510
+name_most name good = leb-true (length name) 510 (and_right (nat_lt 0 (length name)) (nat_le (length name) 510) (and_left (nat_lt 0 (length name) && nat_le (length name) 510) (is_plain name) good))
+
+-- a name at the end of a path, in a directory
+place_is : (t : Tree) (bytes : List ℕ) (p : PathParts) (n : Named) (d : ℕ) → parsed bytes ≡ Ok p → (last_name p ≡ Some n.name) × (is_dots n.name ≡ false) → is_directory t d ≡ true → IsPlace t (record { directory = d; name = n.name })
+place_is t bytes p n d read facts dir =
+    let good = last_is_name bytes p n.name (parsed_is bytes p read) facts.0 in
+    record { directory = dir; plain = name_plain n.name good; some = name_some n.name good; most = name_most n.name good; not_dots = facts.1 }
 
 -- ---- places
 
@@ -105,19 +139,11 @@ place_facts t base bytes p h =
     let c = ok_value (parent_at t base b.0) _ p b.2 in
     let q : Place = record { directory = c.0; name = b.0.name } in
     let same : q ≡ p = cc in
-    let facts = named_facts a.0 b.0 b.1 in
-    let it : IsPlace t q = record {
-      directory = parent_facts t base b.0 c.0 c.1;
-      plain = last_plain bytes a.0 b.0.name (parsed_is bytes a.0 a.1) facts.0;
-      not_dots = facts.1;
-    } in
-    subst (IsPlace t) same it
+    subst (IsPlace t) same (place_is t bytes a.0 b.0 c.0 a.1 (named_facts a.0 b.0 b.1) (parent_facts t base b.0 c.0 c.1))
 
 -- the same of a path that was read before
 pub place_of : (t : Tree) (base : Option ℕ) (bytes : List ℕ) (p : PathParts) (n : Named) (d : ℕ) → parsed bytes ≡ Ok p → named p ≡ Ok n → parent_at t base n ≡ Ok d → IsPlace t (record { directory = d; name = n.name })
-place_of t base bytes p n d read is at =
-    let facts = named_facts p n is in
-    record { directory = parent_facts t base n d at; plain = last_plain bytes p n.name (parsed_is bytes p read) facts.0; not_dots = facts.1 }
+place_of t base bytes p n d read is at = place_is t bytes p n d read (named_facts p n is) (parent_facts t base n d at)
 
 -- ---- names that aren't taken
 

@@ -20,6 +20,7 @@ use Rattle.qx_model.specs.RenewedIds.{HasRenewedIds, IsWorkingAfter, act_end, as
 use Rattle.qx_model.proofs.SamePositions.{rank_in-get, rank_in-member}
 use Rattle.qx_model.proofs.TreeNodes.{was_there}
 use Rattle.qx_model.proofs.TreeTouchTests.{tree_fresh}
+use Rattle.qx_model.proofs.SteadyTurns.{directory_live}
 use Rattle.qx_model.proofs.WholeOperations.{operation_writes}
 use Rattle.qx_model.proofs.PlanStarts.{plan_from}
 use Rattle.qx_model.proofs.KeptSettings.{DiffersInSnapshots, begin_leaves_settings, moves_leave, setting_stays, then_but_snapshots}
@@ -94,7 +95,7 @@ module _ (f : Faults) (s : Machine) (e : VolEvent) (holds : HoldsRecords s.volum
       subst (λ (w : Copy). operate (setting_of s e.session e.moment) w.tree by.operation ≡ Ok (Edits by.is_removing x)) d.working
       (subst (λ (g : Setting). operate g m.working.tree by.operation ≡ Ok (Edits by.is_removing x)) (setting_stays s m e.session e.moment d)
       (decision_from m e.session e.moment by.operation by.is_removing x by.decided)) in
-      let present = operation_writes (setting_of s e.session e.moment) s.working.tree by.operation by.is_removing x holds sound.working.rooted sound.working.whole.entries (λ n at. sound.sessions e.session n at) done in
+      let present = operation_writes (setting_of s e.session e.moment) s.working.tree by.operation by.is_removing x holds sound.working.rooted sound.working.whole.entries (λ n at. directory_live s.working.tree n (sound.sessions e.session n at)) done in
       edited by.operation by.is_removing x by.asked done
       (renewed_alike s m x (is_private m) (with_edit x m).working d (edit_renews m x (subst (λ (v : Volume). WritesPresent v.blocksize x) (sym d.volume) present)))
 

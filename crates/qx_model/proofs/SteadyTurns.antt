@@ -1,5 +1,5 @@
--- What each operation keeps holds of each tree, from a mount on and through every turn; and each session stands in a live inode.
-use Rattle.std.proofs.Common.{◌≡◌, ℕ, zero, suc, ◌⊎◌, inl, inr, List, [], ◌∷◌, refl, sym, ap, ◌∙◌, subst}
+-- What each operation keeps holds of each tree, from a mount on and through every turn; and each session stands in a directory.
+use Rattle.std.proofs.Common.{◌≡◌, ℕ, zero, suc, ◌⊎◌, inl, inr, List, [], ◌∷◌, length, refl, sym, ap, ◌∙◌, subst}
 use Rattle.std.specs.Prelude.{Bool, true, false, not, ◌&&◌, Option, Some, None, Result, Ok, Err, is_some, map, option_and_then, option_map, replicate, nat_le, slice_get, ◌==◌, if◌then◌else◌}
 use Rattle.std.proofs.lemmas.Option.{slice_get-map}
 use Rattle.qx_model.specs.declared.operation.Op.{Op}
@@ -24,20 +24,30 @@ use Rattle.qx_model.specs.Decisions.{Attempt, Decision, Fits, Lacks, Refuses, at
 use Rattle.qx_model.specs.Plans.{Becomes, Ending, GoesTo, Holds, Plan, Stays, after_edit, after_ending, changing_directory, decision_ending, directory_at, is_end, operating, plan, plan_of, planned, refused, sync_moves, syncing, syncing_path}
 use Rattle.qx_model.specs.Next.{ActFault, Faults, Next, Transition, act_result, after_act, background_moves, begun_if, moves_made, next_under, timed_begin}
 use Rattle.qx_model.specs.Whole.{HoldsRecords, IsWhole}
-use Rattle.qx_model.specs.MachineTrees.{HasRootedTrees, HasSoundTrees, HasTrees, HoldsOfFrozen, IsSoundTree}
+use Rattle.qx_model.specs.MachineTrees.{HasInodePlaces, HasRootedTrees, HasSoundTrees, HasTrees, HasVolumePlaces, HoldsOfFrozen, IsSoundTree}
 use Rattle.qx_model.proofs.Places.{not_false, ok_test, ok_value}
 use Rattle.qx_model.proofs.SettledAttempts.{IsSettled, attempt_settled, decision_from}
 use Rattle.qx_model.proofs.RootedOperations.{operation_keeps_rooted}
+use Rattle.qx_model.proofs.BoundedTrees.{operation_keeps_bounded}
+use Rattle.qx_model.proofs.KeptEntries.{operation_directories, operation_places}
 use Rattle.qx_model.proofs.WholeTrees.{operation_keeps_whole}
 use Rattle.qx_model.proofs.UsedNames.{operation_used}
 
--- the block size of the volume, a fact of each tree, and sessions in live inodes
-pub record IsSteadyBy (b : ℕ) (P : Tree → Type 0) (s : Machine) : Type 0 where
-  pub size : s.volume.blocksize ≡ b
+-- a directory is live
+pub directory_live : (t : Tree) (n : ℕ) → is_directory t n ≡ true → is_live t n ≡ true
+directory_live t n h = go (entry_of t n) h
+  where
+    go : (o : Option Entry) → is_some (option_and_then (λ (e : Entry). parent_of_body e.body) o) ≡ true → is_some o ≡ true
+    go None h = absurd (cc)
+    go (Some e) h = refl
+
+-- the volume, a fact of each tree, and sessions in directories
+pub record IsSteadyBy (v : Volume) (P : Tree → Type 0) (s : Machine) : Type 0 where
+  pub volume : s.volume ≡ v
   pub working : P s.working.tree
   pub durable : P s.durable.copy.tree
   pub frozen : HoldsOfFrozen P s.frozen
-  pub sessions : (k d : ℕ) → directory_of s k ≡ Some d → is_live s.working.tree d ≡ true
+  pub sessions : (k d : ℕ) → directory_of s k ≡ Some d → is_directory s.working.tree d ≡ true
 
 -- ---- sessions
 
@@ -57,21 +67,21 @@ each_stands s change same k =
 
 -- ---- a fact that each operation keeps
 
-module _ (b : ℕ) (P : Tree → Type 0)
-    (keeps : (g : Setting) (t : Tree) (o : Op) (is_removing : Bool) (e : Edit) → g.blocksize ≡ b → P t → StandsLive g t → operate g t o ≡ Ok (Edits is_removing e) → P e.tree) where
+module _ (v : Volume) (P : Tree → Type 0) (rooted : (t : Tree) → P t → IsRooted t)
+    (keeps : (g : Setting) (t : Tree) (o : Op) (is_removing : Bool) (e : Edit) → g.blocksize ≡ v.blocksize → P t → StandsLive g t → operate g t o ≡ Ok (Edits is_removing e) → P e.tree) where
   -- the machine is steady by it
   abbrev Steady : Machine → Type 0
-  Steady s = IsSteadyBy b P s
+  Steady s = IsSteadyBy v P s
 
   -- steady by the same trees and standings
   steady_alike : (s t : Machine) → t.volume ≡ s.volume → t.working ≡ s.working → t.durable ≡ s.durable → t.frozen ≡ s.frozen → SameStands s t → Steady s → Steady t
   unfolding SameStands
-  steady_alike s t v w d f same h = record {
-    size = ap (λ (v : Volume). v.blocksize) v ∙ h.size;
+  steady_alike s t same_volume w d f same h = record {
+    volume = same_volume ∙ h.volume;
     working = subst (λ (c : Copy). P c.tree) (sym w) h.working;
     durable = subst (λ z. P z.copy.tree) (sym d) h.durable;
     frozen = subst (HoldsOfFrozen P) (sym f) h.frozen;
-    sessions = λ k n is. subst (λ (c : Copy). is_live c.tree n ≡ true) (sym w) (h.sessions k n (sym (same k) ∙ is));
+    sessions = λ k n is. subst (λ (c : Copy). is_directory c.tree n ≡ true) (sym w) (h.sessions k n (sym (same k) ∙ is));
   }
 
   dropped_steady : (s : Machine) → Steady s → Steady (without_holds s)
@@ -80,15 +90,15 @@ module _ (b : ℕ) (P : Tree → Type 0)
   -- ---- moves
 
   last_step_steady : (last : Bool) (s : Machine) (p : Frozen) → P p.snapshot.copy.tree → Steady s → Steady (step_to last s p)
-  last_step_steady true s p f h = record { size = h.size; working = h.working; durable = f; frozen = tt; sessions = h.sessions }
-  last_step_steady false s p f h = record { size = h.size; working = h.working; durable = h.durable; frozen = f; sessions = h.sessions }
+  last_step_steady true s p f h = record { volume = h.volume; working = h.working; durable = f; frozen = tt; sessions = h.sessions }
+  last_step_steady false s p f h = record { volume = h.volume; working = h.working; durable = h.durable; frozen = f; sessions = h.sessions }
 
   step_steady : (s : Machine) (o : Option Frozen) → HoldsOfFrozen P o → Steady s → Steady (stepped s o)
   step_steady s None f h = h
   step_steady s (Some p) f h = last_step_steady (is_last_step p) s p f h
 
   begun_steady : (moment : ℕ) (s : Machine) → Steady s → Steady (begun moment s)
-  begun_steady moment s h = record { size = h.size; working = h.working; durable = h.durable; frozen = h.working; sessions = h.sessions }
+  begun_steady moment s h = record { volume = h.volume; working = h.working; durable = h.durable; frozen = h.working; sessions = h.sessions }
 
   move_steady : (moment : ℕ) (s : Machine) (m : Move) → Steady s → Steady (after_move moment s m)
   move_steady moment s Begin h = begun_steady moment s h
@@ -103,25 +113,25 @@ module _ (b : ℕ) (P : Tree → Type 0)
   -- what an ending may be where it comes
   IsFairEnding : Machine → Ending → Type 0
   IsFairEnding s Stays = Unit {0}
-  IsFairEnding s (Becomes e) = P e.tree
-  IsFairEnding s (GoesTo k d) = is_live s.working.tree d ≡ true
+  IsFairEnding s (Becomes e) = P e.tree × ((d : ℕ) → is_directory s.working.tree d ≡ true → is_live e.tree d ≡ true → is_directory e.tree d ≡ true)
+  IsFairEnding s (GoesTo k d) = is_directory s.working.tree d ≡ true
   IsFairEnding s (Holds k b) = Unit {0}
 
-  -- after an edit each session stands in a live inode
-  edit_stands : (e : Edit) (s : Machine) (k d : ℕ) → directory_of (after_edit e s) k ≡ Some d → is_live e.tree d ≡ true
-  edit_stands e s k d is = of_session (slice_get s.sessions k) (ap (option_and_then (λ (x : Session). x.directory)) (sym (slice_get-map (left_in e.tree) s.sessions k)) ∙ is)
+  -- after an edit each session stands in a directory: where it stood, and that lives on
+  edit_stands : (e : Edit) (s : Machine) → Steady s → ((d : ℕ) → is_directory s.working.tree d ≡ true → is_live e.tree d ≡ true → is_directory e.tree d ≡ true) → (k d : ℕ) → directory_of (after_edit e s) k ≡ Some d → is_directory e.tree d ≡ true
+  edit_stands e s h stays k d is = of_session (slice_get s.sessions k) refl (ap (option_and_then (λ (x : Session). x.directory)) (sym (slice_get-map (left_in e.tree) s.sessions k)) ∙ is)
     where
-      kept : (b : Bool) (x : ℕ) → is_live e.tree x ≡ b → (if b then Some x else None) ≡ Some d → is_live e.tree d ≡ true
-      kept true x live h = let same : x ≡ d = cc in subst (λ z. is_live e.tree z ≡ true) same live
-      kept false x live h = absurd (cc)
+      kept : (b : Bool) (x : ℕ) → directory_of s k ≡ Some x → is_live e.tree x ≡ b → (if b then Some x else None) ≡ Some d → is_directory e.tree d ≡ true
+      kept true x at live there = let same : x ≡ d = cc in subst (λ z. is_directory e.tree z ≡ true) same (stays x (h.sessions k x at) live)
+      kept false x at live there = absurd (cc)
 
-      of_directory : (o : Option ℕ) → still_live e.tree o ≡ Some d → is_live e.tree d ≡ true
-      of_directory None h = absurd (cc)
-      of_directory (Some x) h = kept (is_live e.tree x) x refl h
+      of_directory : (o : Option ℕ) → directory_of s k ≡ o → still_live e.tree o ≡ Some d → is_directory e.tree d ≡ true
+      of_directory None at h = absurd (cc)
+      of_directory (Some x) at h = kept (is_live e.tree x) x at refl h
 
-      of_session : (o : Option Session) → option_and_then (λ (x : Session). x.directory) (option_map (left_in e.tree) o) ≡ Some d → is_live e.tree d ≡ true
-      of_session None h = absurd (cc)
-      of_session (Some x) h = of_directory x.directory h
+      of_session : (o : Option Session) → slice_get s.sessions k ≡ o → option_and_then (λ (x : Session). x.directory) (option_map (left_in e.tree) o) ≡ Some d → is_directory e.tree d ≡ true
+      of_session None at h = absurd (cc)
+      of_session (Some x) at h = of_directory x.directory (ap (option_and_then (λ (x : Session). x.directory)) at) h
 
   -- a session that is changed stands as the change says, the others as before
   session_stands : (xs : List Session) (k j : ℕ) (change : Session → Session) (d : ℕ) → option_and_then (λ (x : Session). x.directory) (slice_get (changed_at k change xs) j) ≡ Some d
@@ -135,14 +145,14 @@ module _ (b : ℕ) (P : Tree → Type 0)
   ending_steady : (e : Ending) (s : Machine) → IsFairEnding s e → Steady s → Steady (after_ending e s)
   unfolding IsFairEnding
   ending_steady Stays s f h = h
-  ending_steady (Becomes e) s f h = record { size = h.size; working = f; durable = h.durable; frozen = h.frozen; sessions = λ k d is. edit_stands e s k d is }
+  ending_steady (Becomes e) s f h = record { volume = h.volume; working = f.0; durable = h.durable; frozen = h.frozen; sessions = λ k d is. edit_stands e s h f.1 k d is }
   ending_steady (GoesTo k n) s f h = record {
-    size = h.size;
+    volume = h.volume;
     working = h.working;
     durable = h.durable;
     frozen = h.frozen;
     sessions = λ j d is. (elim (session_stands s.sessions k j (gone_to n) d is) [
-      | inl w ↦ let same : n ≡ d = cc_some n d w.2 in subst (λ z. is_live s.working.tree z ≡ true) same f
+      | inl w ↦ let same : n ≡ d = cc_some n d w.2 in subst (λ z. is_directory s.working.tree z ≡ true) same f
       | inr old ↦ h.sessions j d old
     ]);
   }
@@ -150,7 +160,7 @@ module _ (b : ℕ) (P : Tree → Type 0)
       cc_some : (n d : ℕ) → Some n ≡ Some d → n ≡ d
       cc_some n d h = cc
   ending_steady (Holds k b) s f h = record {
-    size = h.size;
+    volume = h.volume;
     working = h.working;
     durable = h.durable;
     frozen = h.frozen;
@@ -177,7 +187,10 @@ module _ (b : ℕ) (P : Tree → Type 0)
       let m = after_moves moment s a.moves in
       let steady = moves_steady moment a.moves s h in
       let done = subst (λ (x : Machine). operate (setting_of x k moment) x.working.tree o ≡ Ok (Edits is_removing e)) f.stands (decision_from a.machine k moment o is_removing e (sym f.decides ∙ is)) in
-      keeps (setting_of m k moment) m.working.tree o is_removing e steady.size steady.working (λ d at. steady.sessions k d at) done
+      let stands : StandsLive (setting_of m k moment) m.working.tree = λ d at. directory_live m.working.tree d (steady.sessions k d at) in (
+        keeps (setting_of m k moment) m.working.tree o is_removing e (ap (λ (v : Volume). v.blocksize) steady.volume) steady.working stands done,
+        operation_directories (setting_of m k moment) m.working.tree o is_removing e (rooted m.working.tree steady.working) stands done,
+      )
 
   fair_operating : (s : Machine) (k moment : ℕ) (o : Op) → Steady s → IsFairPlan moment (operating s k moment o)
   fair_operating s k moment o h = go (changes o && s.volume.is_read_only)
@@ -197,21 +210,13 @@ module _ (b : ℕ) (P : Tree → Type 0)
   fair_path moment s (Err r) h = still moment (refused s r) h refl
   fair_path moment s (Ok n) h = fair_syncing moment s h
 
-  -- a directory is live
-  directory_live : (t : Tree) (n : ℕ) → is_directory t n ≡ true → is_live t n ≡ true
-  directory_live t n h = go (entry_of t n) h
-    where
-      go : (o : Option Entry) → is_some (option_and_then (λ (e : Entry). parent_of_body e.body) o) ≡ true → is_some o ≡ true
-      go None h = absurd (cc)
-      go (Some e) h = refl
-
   goes_fair : (s : Machine) (k : ℕ) (path : List ℕ) (d : ℕ) → directory_at s k path ≡ Ok d → IsFairEnding s (GoesTo k d)
   unfolding IsFairEnding
   goes_fair s k path d is =
       let a = ok_value (inode_at s.working.tree (directory_of s k) Followed path) _ d is in
       let b = ok_test (not (is_directory s.working.tree a.0)) refusal.NotDir (Ok a.0) d a.2 in
       let same : a.0 ≡ d = cc in
-      subst (λ z. is_live s.working.tree z ≡ true) same (directory_live s.working.tree a.0 (not_false (is_directory s.working.tree a.0) b.0))
+      subst (λ z. is_directory s.working.tree z ≡ true) same (not_false (is_directory s.working.tree a.0) b.0)
 
   fair_directory : (moment : ℕ) (s : Machine) (k : ℕ) (path : List ℕ) → Steady s → IsFairPlan moment (changing_directory s k (directory_at s k path))
   fair_directory moment s k path h = go (directory_at s k path) refl
@@ -268,44 +273,56 @@ module _ (b : ℕ) (P : Tree → Type 0)
 
 -- ---- rooted trees, and sound ones
 
--- the trees of a machine, with its block size
-to_steady : (P : Tree → Type 0) (s : Machine) → HasTrees P s → IsSteadyBy s.volume.blocksize P s
-to_steady P s h = record { size = refl; working = h.working; durable = h.durable; frozen = h.frozen; sessions = h.sessions }
+-- the trees of a machine, with its volume
+to_steady : (P : Tree → Type 0) (s : Machine) → HasTrees P s → IsSteadyBy s.volume P s
+to_steady P s h = record { volume = refl; working = h.working; durable = h.durable; frozen = h.frozen; sessions = h.sessions }
 
 -- and without it
-from_steady : (b : ℕ) (P : Tree → Type 0) (s : Machine) → IsSteadyBy b P s → HasTrees P s
-from_steady b P s h = record { working = h.working; durable = h.durable; frozen = h.frozen; sessions = h.sessions }
+from_steady : (v : Volume) (P : Tree → Type 0) (s : Machine) → IsSteadyBy v P s → HasTrees P s
+from_steady v P s h = record { working = h.working; durable = h.durable; frozen = h.frozen; sessions = h.sessions }
 
--- a turn leaves trees rooted and sessions in live inodes
+-- a turn leaves trees rooted and sessions in directories
 pub turn_steady : (s t : Machine) (e : VolEvent) (turn : Turn) → HasRootedTrees s → Next s e turn t → HasRootedTrees t
 turn_steady s t e turn h n =
-    from_steady s.volume.blocksize IsRooted t
-    (turn_keeps s.volume.blocksize IsRooted (λ g t o is_removing e same rooted stands done. operation_keeps_rooted g t o is_removing e rooted stands done) s t e turn (to_steady IsRooted s h) n)
+    from_steady s.volume IsRooted t
+    (turn_keeps s.volume IsRooted (λ t r. r) (λ g t o is_removing e same r stands done. operation_keeps_rooted g t o is_removing e r stands done) s t e turn (to_steady IsRooted s h) n)
 
 -- an operation keeps a sound tree sound
 keeps_sound : (b : ℕ) → HoldsRecords b → (g : Setting) (t : Tree) (o : Op) (is_removing : Bool) (e : Edit) → g.blocksize ≡ b → IsSoundTree b t → StandsLive g t → operate g t o ≡ Ok (Edits is_removing e) → IsSoundTree b e.tree
-keeps_sound b holds g t o is_removing e same h stands done = record {
-  rooted = operation_keeps_rooted g t o is_removing e h.rooted stands done;
-  whole = subst (λ x. IsWhole x e.tree) same (operation_keeps_whole g t o is_removing e (subst HoldsRecords (sym same) holds) h.rooted (subst (λ x. IsWhole x t) (sym same) h.whole) stands done);
-  used = operation_used g t o is_removing e (subst HoldsRecords (sym same) holds) h.rooted (subst (λ x. IsWhole x t) (sym same) h.whole) stands h.used done;
-}
+keeps_sound b holds g t o is_removing e same h stands done =
+    let whole : IsWhole g.blocksize t = subst (λ x. IsWhole x t) (sym same) h.whole in
+    let own = subst HoldsRecords (sym same) holds in
+    record {
+      rooted = operation_keeps_rooted g t o is_removing e h.rooted stands done;
+      whole = subst (λ x. IsWhole x e.tree) same (operation_keeps_whole g t o is_removing e own h.rooted whole stands done);
+      used = operation_used g t o is_removing e own h.rooted whole stands h.used done;
+      bounded = operation_keeps_bounded g t o is_removing e h.rooted whole.entries h.bounded stands done;
+    }
 
 -- and so does a turn
 pub turn_sound : (s t : Machine) (e : VolEvent) (turn : Turn) → HoldsRecords s.volume.blocksize → HasSoundTrees s → Next s e turn t → HasSoundTrees t
 turn_sound s t e turn holds h n =
     let b = s.volume.blocksize in
-    let after : IsSteadyBy b (IsSoundTree b) t = turn_keeps b (IsSoundTree b) (keeps_sound b holds) s t e turn (to_steady (IsSoundTree b) s h) n in
-    subst (λ x. HasTrees (IsSoundTree x) t) (sym after.size) (from_steady b (IsSoundTree b) t after)
+    let after : IsSteadyBy s.volume (IsSoundTree b) t = turn_keeps s.volume (IsSoundTree b) (λ t h. h.rooted) (keeps_sound b holds) s t e turn (to_steady (IsSoundTree b) s h) n in
+    subst (λ (v : Volume). HasTrees (IsSoundTree v.blocksize) t) (sym after.volume) (from_steady s.volume (IsSoundTree b) t after)
+
+-- and the places of all trees
+pub turn_places : (s t : Machine) (e : VolEvent) (turn : Turn) → HasVolumePlaces s → Next s e turn t → HasVolumePlaces t
+turn_places s t e turn h n =
+    let m = s.volume.inodes in
+    let after : IsSteadyBy s.volume (HasInodePlaces m) t = turn_keeps s.volume (HasInodePlaces m) (λ t h. h.rooted)
+    (λ g t o is_removing e same h stands done. record { rooted = operation_keeps_rooted g t o is_removing e h.rooted stands done; places = operation_places g t o is_removing e h.rooted stands done ∙ h.places }) s t e turn (to_steady (HasInodePlaces m) s h) n in
+    subst (λ (v : Volume). HasTrees (HasInodePlaces v.inodes) t) (sym after.volume) (from_steady s.volume (HasInodePlaces m) t after)
 
 -- ---- a mount
 
 module _ (P : Tree → Type 0) (v : Volume) (t : Tree) (serial moment : ℕ) (is : P t) (r : IsRooted t) where
-  top_live : is_live t 1 ≡ true
-  top_live = let top : IsDirectory t 1 1 = r.top in ap is_some top.2
+  top_directory : is_directory t 1 ≡ true
+  top_directory = let top : IsDirectory t 1 1 = r.top in ap (λ o. is_some (option_and_then (λ (e : Entry). parent_of_body e.body) o)) top.2 ∙ ap (λ b. is_some (parent_of_body b)) top.3
 
-  stand : (n k d : ℕ) → option_and_then (λ (x : Session). x.directory) (slice_get (replicate n (record { directory = Some 1; holds = false })) k) ≡ Some d → is_live t d ≡ true
+  stand : (n k d : ℕ) → option_and_then (λ (x : Session). x.directory) (slice_get (replicate n (record { directory = Some 1; holds = false })) k) ≡ Some d → is_directory t d ≡ true
   stand zero k d h = absurd (cc)
-  stand (suc n) zero d h = let same : 1 ≡ d = cc in subst (λ z. is_live t z ≡ true) same top_live
+  stand (suc n) zero d h = let same : 1 ≡ d = cc in subst (λ z. is_directory t z ≡ true) same top_directory
   stand (suc n) (suc k) d h = stand n k d h
 
   -- the trees of a mount are as the one that is mounted
@@ -319,3 +336,7 @@ start_steady v t serial moment r = start_has IsRooted v t serial moment r r
 -- and sound, where it is
 pub start_sound : (v : Volume) (t : Tree) (serial moment : ℕ) → IsSoundTree v.blocksize t → HasSoundTrees (start_of v t serial moment)
 start_sound v t serial moment h = start_has (IsSoundTree v.blocksize) v t serial moment h h.rooted
+
+-- and have the volume's places, where it has
+pub start_places : (v : Volume) (t : Tree) (serial moment : ℕ) → IsRooted t → length t.inodes ≡ v.inodes → HasVolumePlaces (start_of v t serial moment)
+start_places v t serial moment r long = start_has (HasInodePlaces v.inodes) v t serial moment (record { rooted = r; places = long }) r

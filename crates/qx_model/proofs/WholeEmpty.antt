@@ -12,11 +12,12 @@ use Rattle.qx_model.proofs.RootedNames.{first_slot}
 use Rattle.qx_model.proofs.WholeNumbers.{slot_by_outline}
 use Rattle.qx_model.proofs.WholeOperations.{new_whole}
 
--- nothing stands among places without an inode
-abbrev no_inode : Option Entry
+-- nothing stands there
+abbrev pub no_inode : Option Entry
 no_inode = None
 
-none_among : (m k : ℕ) → option_flatten (slice_get (replicate m no_inode) k) ≡ None
+-- nor among places without an inode
+pub none_among : (m k : ℕ) → option_flatten (slice_get (replicate m no_inode) k) ≡ None
 none_among zero zero = refl
 none_among zero (suc k) = refl
 none_among (suc m) zero = refl

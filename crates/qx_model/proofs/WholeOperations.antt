@@ -88,7 +88,8 @@ own_mod b = ap (λ n. n % b) (sym (one-mul b)) ∙ mul-mod_left 1 b
 
 -- ---- lengths
 
-resized_long : (xs : List ℕ) (size : ℕ) → length (resized xs size) ≡ size
+-- bytes of another length
+pub resized_long : (xs : List ℕ) (size : ℕ) → length (resized xs size) ≡ size
 resized_long xs size = omega (arith, length-append (take size xs) (replicate (size - length xs) 0), length-take size xs, length-replicate {A = ℕ} (size - length xs) 0)
 
 -- the leaves of a range lie below its end

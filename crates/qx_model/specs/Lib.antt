@@ -35,5 +35,6 @@ pub mod NamedIds
 pub mod Faults
 pub mod Findable
 pub mod Whole
+pub mod Bounds
 pub mod MachineTrees
 pub mod ReadingMounts

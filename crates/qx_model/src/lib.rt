@@ -73,7 +73,8 @@ pub use turn_laws::{
 };
 pub use whole_laws::{
     a_whole_tree_has_each_position_once, an_operation_keeps_long_names_in_use,
-    an_operation_keeps_the_tree_whole, the_empty_tree_is_whole, trees_stay_sound,
+    an_operation_keeps_the_tree_bounded, an_operation_keeps_the_tree_whole,
+    the_empty_tree_is_whole, trees_keep_the_inodes_of_the_volume, trees_stay_sound,
     what_an_operation_writes_is_present,
 };
 

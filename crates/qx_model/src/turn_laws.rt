@@ -30,7 +30,7 @@ pub fn a_turn_finds_the_trees_of_its_two_states()
     ensures { (f : Faults) (s : Machine) (e : VolEvent) (u : Machine) → IsOnTheWay f s e u → IsFoundAmong u s (next_under f s e).machine }
 {}
 
-/// From a mount of a rooted tree on, and through every turn, each tree is rooted, and each session stands in a live inode, if anywhere.
+/// From a mount of a rooted tree on, and through every turn, each tree is rooted, and each session stands in a directory, if anywhere.
 pub fn trees_stay_rooted()
     ensures start { (v : Volume) (t : Tree) (serial moment : ℕ) → IsRooted t → HasRootedTrees (start_of v t serial moment) }
     ensures turn { (s t : Machine) (e : VolEvent) (turn : Turn) → HasRootedTrees s → Next s e turn t → HasRootedTrees t }
