@@ -1,31 +1,25 @@
 -- Each operation leaves a tree within the format's bounds, and a new tree is within them.
 use Rattle.std.proofs.Common.{◌≡◌, ℕ, zero, suc, ◌-◌, ◌/◌, ◌<◌, ◌≤◌, List, [], ◌∷◌, length, refl, sym, ap, ◌∙◌, subst, arith}
 use Rattle.std.specs.Prelude.{Bool, true, false, Option, Some, None, Ok, max, nat_lt, replicate, slice_get, if◌then◌else◌}
-use Rattle.std.specs.List.{range_with_len}
-use Rattle.std.specs.Option.{option_flatten}
 use Rattle.std.proofs.lemmas.Bool.{ltb-false}
-use Rattle.std.proofs.lemmas.Option.{slice_get_past, slice_get_within}
-use Rattle.qx_geom.specs.Pointer.{ceil_div}
 use Rattle.qx_geom.specs.Room.{greatest_end}
-use Rattle.qx_model.specs.declared.attr.Attr.{Attr}
 use Rattle.qx_model.specs.declared.operation.Op.{Op}
 use Rattle.qx_model.specs.Tree.{Body, Directory, Entry, File, Link, Row, Slot, Special, Tree, Unused, entry_of, slots_of, slots_of_body, slots_of_entry}
 use Rattle.qx_model.specs.Rooted.{IsRooted}
 use Rattle.qx_model.specs.Bounds.{FitsRecord, HasKind, IsBounded}
 use Rattle.qx_model.specs.Answering.{FileAt}
 use Rattle.qx_model.specs.Contents.{with_content}
-use Rattle.qx_model.specs.Edits.{Edit, Setting, StandsLive, absent_number, new_inode, new_link, number_for, pointed, with_slots}
+use Rattle.qx_model.specs.Edits.{Edit, Setting, StandsLive, absent_number, number_for, pointed}
 use Rattle.qx_model.specs.Effects.{Edits}
 use Rattle.qx_model.specs.EmptyTree.{empty_tree, new_directory}
-use Rattle.qx_model.specs.NewNames.{empty_file}
 use Rattle.qx_model.specs.Operate.{operate}
 use Rattle.qx_model.specs.Whole.{AreWhole, IsWholeEntry, body_size}
 use Rattle.qx_model.proofs.DoneEdits.{IsFileAt, IsNewEntry, edit_done, new_dir, new_file, new_target}
-use Rattle.qx_model.proofs.KeptEntries.{HasKept, IsKept, done_kept, is_directory_body, kept_start}
+use Rattle.qx_model.proofs.KeptEntries.{IsKept, done_kept, is_directory_body, kept_start}
 use Rattle.qx_model.proofs.Outlines.{row_read, row_stands, slot_in}
 use Rattle.qx_model.proofs.Places.{path_long}
 use Rattle.qx_model.proofs.RootedNames.{first_slot}
-use Rattle.qx_model.proofs.WholeEmpty.{no_inode, none_among}
+use Rattle.qx_model.proofs.WholeEmpty.{none_among}
 
 -- a slot is unused, or its name fits
 abbrev FitsSlot : Slot → Type 0

@@ -1,6 +1,6 @@
 -- What each step of an edit keeps of each inode, each operation keeps; and directories that live on stay directories, and all places stay.
-use Rattle.std.proofs.Common.{◌≡◌, ℕ, zero, suc, ◌+◌, ◌/◌, ◌<◌, ◌≤◌, ◌⊎◌, inl, inr, List, [], ◌∷◌, ◌++◌, length, refl, sym, ap, ◌∙◌, subst, arith}
-use Rattle.std.specs.Prelude.{◌≢◌, Bool, true, false, not, ◌&&◌, Option, Some, None, Ok, is_some, max, option_and_then, option_map, replicate, slice_get, slice_set, nat_lt, unwrap_or, ◌==◌, if◌then◌else◌}
+use Rattle.std.proofs.Common.{◌≡◌, ℕ, zero, suc, ◌+◌, ◌/◌, ◌<◌, ◌≤◌, inl, inr, List, [], ◌∷◌, length, refl, sym, ap, ◌∙◌, subst, arith}
+use Rattle.std.specs.Prelude.{Bool, true, false, not, ◌&&◌, Option, Some, None, Ok, is_some, max, option_and_then, option_map, slice_set, nat_lt, unwrap_or, ◌==◌, if◌then◌else◌}
 use Rattle.std.specs.List.{position_or_len}
 use Rattle.std.proofs.lemmas.Bool.{cases_eq, ltb-false}
 use Rattle.qx_bytes.specs.Ranges.{put_at}
@@ -18,14 +18,12 @@ use Rattle.qx_model.specs.Edits.{Edit, Setting, StandsLive, add_row, altering, a
 use Rattle.qx_model.specs.Effects.{Edits}
 use Rattle.qx_model.specs.Operate.{operate}
 use Rattle.qx_model.specs.Rooted.{IsRooted}
-use Rattle.qx_model.specs.LostNames.{RowAt, moved_onto, moved_to, without_row}
-use Rattle.qx_model.specs.NewNames.{made_at}
+use Rattle.qx_model.specs.LostNames.{RowAt}
 use Rattle.qx_model.specs.Owners.{OfInode}
 use Rattle.qx_model.specs.Paths.{Place}
-use Rattle.qx_model.proofs.AddedRows.{set_at}
-use Rattle.qx_model.proofs.DoneEdits.{IsDone, IsFileAt, IsNewEntry, KeepsKind, attributes, bytes_written, edit_done, linked, lost, made, row_moved, row_moved_onto, size_set, sized}
-use Rattle.qx_model.proofs.EditOutlines.{IsDirectoryAt, directory_parent, length-set, long_inodes, new_place_facts, slots_with-in}
-use Rattle.qx_model.proofs.Outlines.{Absent, entry-other, entry_outline, outline_of, slot_in}
+use Rattle.qx_model.proofs.DoneEdits.{IsDone, IsFileAt, IsNewEntry, KeepsKind, attributes, bytes_written, edit_done, linked, lost, made, row_moved, row_moved_onto, size_set}
+use Rattle.qx_model.proofs.EditOutlines.{directory_parent, length-set, long_inodes, new_place_facts, slots_with-in}
+use Rattle.qx_model.proofs.Outlines.{Absent, entry-other, entry_outline, slot_in}
 use Rattle.qx_model.proofs.RootedRemovals.{IsRow, long_inodes_stay}
 use Rattle.qx_model.proofs.WholeEntries.{set_or_stays}
 use Rattle.qx_model.proofs.WholeOperations.{resized_long}

@@ -8,7 +8,7 @@ use Rattle.qx_geom.specs.Pointer.{ceil_div}
 use Rattle.qx_model.specs.declared.refusal.Refusal.{Refusal}
 use Rattle.qx_model.specs.declared.refusal.Refusal.TheVariants as refusal
 use Rattle.qx_model.specs.Outcomes.{◌>>=◌, ◌>>◌, refuse_if}
-use Rattle.qx_model.specs.Tree.{Body, Directory, Entry, File, Link, Row, Slot, Special, Tree, Unused, entry_of, named_by}
+use Rattle.qx_model.specs.Tree.{Body, Directory, Entry, File, Link, Row, Slot, Special, Tree, Unused, dot_name, dots_name, entry_of, named_by}
 use Rattle.qx_model.specs.Rooted.{IsRooted, is_plain}
 use Rattle.qx_model.specs.EmptyTree.{new_directory}
 use Rattle.qx_model.specs.Directories.{inode_named, is_directory, is_special, is_unused, parent_of_body}
@@ -108,13 +108,6 @@ symlink_keeps s t target path =
     (made_rooted s t p n (new_link s.blocksize s.moment target) (target_leaves s target) (new_place_is s t path p is) new (plain_first n p.directory)))))
 
 -- ---- a new directory
-
--- the names of its rows
-abbrev dot_name : List ℕ
-dot_name = 46 ∷ []
-
-abbrev dots_name : List ℕ
-dots_name = 46 ∷ 46 ∷ []
 
 -- its slots
 abbrev first_slots : ℕ → ℕ → ℕ → List Slot

@@ -15,7 +15,7 @@ use Rattle.qx_model.specs.Tree.{Entry, File, Tree}
 use Rattle.qx_model.specs.Owners.{OfInode}
 use Rattle.qx_model.specs.Paths.{Followed, inode_at}
 use Rattle.qx_model.specs.Answering.{FileAt, file_at}
-use Rattle.qx_model.specs.Edits.{Edit, Setting, altering, content_changed, unchanged, with_attr, writing}
+use Rattle.qx_model.specs.Edits.{Edit, Setting, altering, content_changed, kind_unit, unchanged, with_attr, writing}
 use Rattle.qx_model.specs.Effects.{Edits, Effect, done}
 
 -- ---- bytes
@@ -72,7 +72,7 @@ truncate s t path size = do
 
 -- other permission bits: the low 12 of the mode
 abbrev pub with_mode : ℕ → ℕ → Attr → Attr
-with_mode moment mode a = record a { mode = a.mode / 4096 * 4096 + mode % 4096; ctime = moment }
+with_mode moment mode a = record a { mode = a.mode / kind_unit * kind_unit + mode % kind_unit; ctime = moment }
 
 -- another owner
 abbrev pub with_owner : ℕ → ℕ → ℕ → Attr → Attr

@@ -7,7 +7,7 @@ use Rattle.qx_geom.specs.Positions.{present_after, with_number}
 use Rattle.qx_model.specs.declared.attr.Attr.{Attr}
 use Rattle.qx_model.specs.declared.refusal.Refusal.{Refusal}
 use Rattle.qx_model.specs.declared.refusal.Refusal.TheVariants.{NoInodes}
-use Rattle.qx_model.specs.Tree.{Directory, Entry, Link, Row, Slot, Tree, Unused, entry_of, links_of, slots_of}
+use Rattle.qx_model.specs.Tree.{Directory, Entry, Link, Row, Slot, Tree, Unused, dots_name, entry_of, links_of, longest_short_name, record_size, slots_of}
 use Rattle.qx_model.specs.Directories.{has_name, is_directory, is_live, is_unused, long_of_slot, parent_of, slot_at, with_entry}
 use Rattle.qx_model.specs.Owners.{OfInode, OfLongfile, Owner}
 
@@ -63,14 +63,30 @@ with_attr n change e = altering n (λ x. record x { attr = change x.attr }) e
 
 -- ---- new inodes
 
+-- a mode is its kind times this, and its 12 permission bits
+abbrev pub kind_unit : ℕ
+kind_unit = 4096
+
+-- the mode of a new directory: 0755, with its kind
+abbrev pub directory_mode : ℕ
+directory_mode = 0x41ED
+
+-- the mode of a new file: 0644, with its kind
+abbrev pub file_mode : ℕ
+file_mode = 0x81A4
+
+-- the mode of a new link: 0777, with its kind
+abbrev pub link_mode : ℕ
+link_mode = 0xA1FF
+
 -- the attributes of a new inode: owned by 0, all times at the moment
 abbrev pub new_attr : ℕ → ℕ → Attr
 new_attr mode moment = record { mode = mode; uid = 0; gid = 0; ftime = moment; mtime = moment; atime = moment; ctime = moment }
 
--- a new link: its mode is 0777, and each leaf of its target is present
+-- a new link: each leaf of its target is present
 abbrev pub new_link : ℕ → ℕ → List ℕ → Entry
 new_link blocksize moment target = record {
-  attr = new_attr 0xA1FF moment;
+  attr = new_attr link_mode moment;
   size = length target;
   present = range_with_len 0 (ceil_div (length target) blocksize);
   body = Link target;
@@ -88,7 +104,7 @@ absent_number t = let below = range_with_len 0 (length t.long_present) in positi
 
 -- the number that a name gets, where it is long
 abbrev pub number_for : Tree → List ℕ → Option ℕ
-number_for t name = if nat_lt 27 (length name) then Some (absent_number t) else None
+number_for t name = if nat_lt longest_short_name (length name) then Some (absent_number t) else None
 
 -- the list with x at place k, or at its end
 abbrev pub with_place : {A : Type 0} → List A → ℕ → A → List A
@@ -119,13 +135,13 @@ without_long (Some k) e = record e {
 
 -- the leaf that holds record k
 abbrev pub leaf_of_record : ℕ → ℕ → ℕ
-leaf_of_record blocksize k = k * 32 / blocksize
+leaf_of_record blocksize k = k * record_size / blocksize
 
 -- a directory with other slots, and with this leaf among the present ones
 abbrev pub with_slots : ℕ → List Slot → ℕ → ℕ → Entry → Entry
 with_slots blocksize slots parent leaf e = record e {
-  size = 32 * length slots;
-  present = present_after e.present (ceil_div (32 * length slots) blocksize) (leaf ∷ []) None;
+  size = record_size * length slots;
+  present = present_after e.present (ceil_div (record_size * length slots) blocksize) (leaf ∷ []) None;
   body = Directory slots parent;
 }
 
@@ -139,7 +155,7 @@ writing_record blocksize d k slots e =
 abbrev pub slots_with : ℕ → List Slot → Slot → List Slot
 slots_with blocksize slots row =
     let k = position_or_len is_unused slots in
-    if nat_lt k (length slots) then slice_set slots k row else slots ++ row ∷ replicate (blocksize / 32 - 1) Unused
+    if nat_lt k (length slots) then slice_set slots k row else slots ++ row ∷ replicate (blocksize / record_size - 1) Unused
 
 -- directory d with a new row that names n
 abbrev pub add_row : Setting → ℕ → ℕ → List ℕ → Edit → Edit
@@ -173,7 +189,7 @@ lose_row s n e = if links_of e.tree n == 0 then putting n None e else with_attr 
 abbrev pub with_parent : Setting → ℕ → ℕ → Edit → Edit
 with_parent s n parent e =
     let slots = slots_of e.tree n in
-    let k = position_or_len (has_name (46 ∷ 46 ∷ [])) slots in
+    let k = position_or_len (has_name dots_name) slots in
     let leaf = leaf_of_record s.blocksize k in
     writing (OfInode n) (leaf ∷ []) (altering n (with_slots s.blocksize (slice_set slots k (pointed parent (slot_at e.tree n k))) parent leaf) e)
 

@@ -6,7 +6,7 @@ use Rattle.qx_path.specs.PathParts.{PathParts, last_name, path_of}
 use Rattle.qx_model.specs.declared.refusal.Refusal.{Refusal}
 use Rattle.qx_model.specs.declared.refusal.Refusal.TheVariants.{NoEntry, NotDir, NameTooLong, BadPath, LinkLoop, Reserved}
 use Rattle.qx_model.specs.Outcomes.{◌>>=◌, ◌>>◌, refuse_if}
-use Rattle.qx_model.specs.Tree.{Body, Directory, File, Link, Special, Tree, entry_of, is_dots}
+use Rattle.qx_model.specs.Tree.{Body, Directory, File, Link, Special, Tree, dot_name, dots_name, entry_of, is_dots}
 use Rattle.qx_model.specs.Directories.{inode_named, is_directory}
 
 -- ---- bytes that are a path
@@ -53,7 +53,7 @@ lead_by follow n (Directory slots parent) = To n
 lead_by follow n (File content) = To n
 lead_by follow n Special = To n
 
--- the same of inode n of a tree, if it is live
+-- to inode n of a tree, or through its target, if it is live
 abbrev pub lead_to : Tree → Bool → ℕ → Result Lead Refusal
 lead_to t follow n = do
   e ← ok_or (entry_of t n) NoEntry
@@ -62,8 +62,8 @@ lead_to t follow n = do
 -- from a directory with this parent: `.` stays, `..` goes up, any other name leads to its inode
 abbrev pub lead_in : Tree → Bool → ℕ → ℕ → List ℕ → Result Lead Refusal
 lead_in t follow d parent name =
-    if bytes_eq name (46 ∷ []) then Ok (To d)
-    else if bytes_eq name (46 ∷ 46 ∷ []) then Ok (To parent)
+    if bytes_eq name dot_name then Ok (To d)
+    else if bytes_eq name dots_name then Ok (To parent)
     else (ok_or (inode_named t d name) NoEntry >>= lead_to t follow)
 
 -- from what an inode is: names lead on from directories alone
@@ -90,13 +90,13 @@ abbrev pub walk_by : Tree → LastLink → Jump → ℕ → List (List ℕ) → 
 walk_by t last jump at [] = Ok at
 walk_by t last jump at (name ∷ rest) =
     lead t (is_followed last rest) at name
-    >>= λ lead. elim lead [ To n ↦ walk_by t last jump n rest | Through target ↦ jump at target rest ]
+    >>= λ end. elim end [ To n ↦ walk_by t last jump n rest | Through target ↦ jump at target rest ]
 
 -- the root for an absolute path, else this directory
 abbrev pub start_in : PathParts → ℕ → ℕ
 start_in p at = if p.absolute then 1 else at
 
--- the same where at most so many links are followed, each from the directory in which it stands
+-- the inode at which names end that begin at an inode, where at most so many links are followed, each from the directory in which it stands
 abbrev pub walk : ℕ → Tree → LastLink → ℕ → List (List ℕ) → Result ℕ Refusal
 walk zero t last = walk_by t last (λ at target rest. Err LinkLoop)
 walk (suc links) t last = walk_by t last (λ at target rest. parsed target >>= λ p. walk links t last (start_in p at) (p.names ++ rest))

@@ -1,7 +1,7 @@
 -- What a tree is by itself.
-use Rattle.std.specs.Prelude.{◌≡◌, ◌≢◌, ℕ, Bool, not, ◌||◌, List, [], ◌∷◌, Option, Some, IsTrue, ◌==◌, slice_get}
+use Rattle.std.specs.Prelude.{◌≡◌, ◌≢◌, ℕ, Bool, not, ◌||◌, List, Option, Some, IsTrue, ◌==◌, slice_get}
 use Rattle.std.specs.List.{list_all}
-use Rattle.qx_model.specs.Tree.{Entry, IsDirectory, Names, NamesAt, Reached, Row, Slot, Tree, entry_of, slots_of}
+use Rattle.qx_model.specs.Tree.{Entry, IsDirectory, Names, NamesAt, Reached, Row, Slot, Tree, dot_name, dots_name, entry_of, slots_of}
 
 -- no byte 0 or `/`
 abbrev pub is_plain : List ℕ → Bool
@@ -11,8 +11,8 @@ is_plain name = list_all (λ c. not ((c == 0) || (c == 47))) name
 pub record AreRows (d p : ℕ) (slots : List Slot) : Type 0 where
   pub plain : (k n : ℕ) (name : List ℕ) (long : Option ℕ) → slice_get slots k ≡ Some (Row n name long) → IsTrue (is_plain name)
   pub differ : (k j n i : ℕ) (name : List ℕ) (a b : Option ℕ) → slice_get slots k ≡ Some (Row n name a) → slice_get slots j ≡ Some (Row i name b) → k ≡ j
-  pub dot : (k n : ℕ) (long : Option ℕ) → slice_get slots k ≡ Some (Row n (46 ∷ []) long) → n ≡ d
-  pub dots : (k n : ℕ) (long : Option ℕ) → slice_get slots k ≡ Some (Row n (46 ∷ 46 ∷ []) long) → n ≡ p
+  pub dot : (k n : ℕ) (long : Option ℕ) → slice_get slots k ≡ Some (Row n dot_name long) → n ≡ d
+  pub dots : (k n : ℕ) (long : Option ℕ) → slice_get slots k ≡ Some (Row n dots_name long) → n ≡ p
 
 -- what a tree is by itself: its inodes are the reached ones; inode 1 is a directory, its own parent, that no row names; each other directory is named by one row, which is its parent's; and its rows are as rows must be
 pub record IsRooted (t : Tree) : Type 0 where

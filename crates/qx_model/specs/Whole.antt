@@ -1,19 +1,19 @@
 -- When the parts of a tree agree: sizes and contents, present leaves, long names and their numbers.
-use Rattle.std.specs.Prelude.{◌≡◌, ℕ, ◌*◌, ◌/◌, ◌%◌, ◌<◌, ◌≤◌, true, List, [], ◌∷◌, length, Option, Some, None, is_some, slice_get}
+use Rattle.std.specs.Prelude.{◌≡◌, ℕ, ◌*◌, ◌/◌, ◌%◌, ◌<◌, ◌≤◌, true, List, length, Option, Some, None, is_some, slice_get}
 use Rattle.std.specs.Option.{option_flatten}
 use Rattle.qx_geom.specs.Lists.{IsAscending, is_in}
 use Rattle.qx_geom.specs.Pointer.{ceil_div}
 use Rattle.qx_model.specs.Directories.{slot_at}
-use Rattle.qx_model.specs.Tree.{Body, Directory, Entry, File, Link, Row, Slot, Special, Tree, entry_of}
+use Rattle.qx_model.specs.Tree.{Body, Directory, Entry, File, Link, Row, Slot, Special, Tree, dot_name, dots_name, entry_of, record_size}
 
 -- blocks hold whole records, two at least
 pub record HoldsRecords (blocksize : ℕ) : Type 0 where
   pub two : 64 ≤ blocksize
-  pub whole : blocksize % 32 ≡ 0
+  pub whole : blocksize % record_size ≡ 0
 
 -- how many bytes a body has
 abbrev pub body_size : Body → ℕ
-body_size (Directory slots parent) = 32 * length slots
+body_size (Directory slots parent) = record_size * length slots
 body_size (File content) = length content
 body_size (Link target) = length target
 body_size Special = 0
@@ -23,8 +23,8 @@ pub record IsWholeDirectory (blocksize n : ℕ) (e : Entry) (slots : List Slot) 
   pub some : 0 < e.size
   pub whole : e.size % blocksize ≡ 0
   pub filled : (i : ℕ) → i < e.size / blocksize → is_in e.present i ≡ true
-  pub dot : slice_get slots 0 ≡ Some (Row n (46 ∷ []) None)
-  pub dots : slice_get slots 1 ≡ Some (Row parent (46 ∷ 46 ∷ []) None)
+  pub dot : slice_get slots 0 ≡ Some (Row n dot_name None)
+  pub dots : slice_get slots 1 ≡ Some (Row parent dots_name None)
 
 -- what else is asked of a body
 abbrev pub IsWholeBody : ℕ → ℕ → Entry → Body → Type 0
@@ -40,7 +40,7 @@ pub record IsWholeEntry (blocksize n : ℕ) (e : Entry) : Type 0 where
   pub below : (i : ℕ) → is_in e.present i ≡ true → i < ceil_div e.size blocksize
   pub body : IsWholeBody blocksize n e e.body
 
--- so is each inode
+-- each inode of a tree is whole
 abbrev pub AreWhole : ℕ → Tree → Type 0
 AreWhole blocksize t = (n : ℕ) (e : Entry) → entry_of t n ≡ Some e → IsWholeEntry blocksize n e
 
