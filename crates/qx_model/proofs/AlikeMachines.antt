@@ -17,7 +17,7 @@ use Rattle.qx_model.specs.Snapshots.{Begin, Move, Step, after_move, after_moves,
 use Rattle.qx_model.specs.Plans.{Becomes, Ending, GoesTo, Holds, Stays, after_edit, after_ending}
 use Rattle.qx_model.specs.Ids.{HasFrozenIdsBelow, HasIds, HasIdsBelow}
 use Rattle.qx_model.specs.IdReadings.{HasFrozenId, IsReading, IsUsed}
-use Rattle.qx_model.specs.NamedIds.{AreFrozenAlike, AreIdsOfOne, AreSameButIds, DifferInIds, HaveFrozenIds, HaveIds, MayBeAlike, ReadAlike}
+use Rattle.qx_model.specs.NamedIds.{AreFrozenAlike, AreIdsOfOne, AreSameButIds, DifferInIds, HaveFrozenIds, HaveIds, AreBothAlike, ReadAlike}
 use Rattle.qx_model.proofs.TreeNodes.{listed_position, was_there}
 use Rattle.qx_model.proofs.MatchedIds.{Matched, matched_append, matched_count, matched_different, matched_in, matched_map, none}
 
@@ -58,7 +58,7 @@ module _ (s t : Machine) (d : DifferInIds s t) where
   durable_matched : Matched (AreIdsOfOne s t) (durable_ids s) (durable_ids t)
   durable_matched = let durable = d.same.durable in copy_matched s.durable.copy t.durable.copy durable.tree (λ i j h. inr (inl h))
 
-  frozen_matched : (o q : Option Frozen) → MayBeAlike o q → ((i j : ℕ) → HaveFrozenIds b o q i j → AreIdsOfOne s t i j) → Matched (AreIdsOfOne s t) (ids_of_frozen b o) (ids_of_frozen t.volume.blocksize q)
+  frozen_matched : (o q : Option Frozen) → AreBothAlike o q → ((i j : ℕ) → HaveFrozenIds b o q i j → AreIdsOfOne s t i j) → Matched (AreIdsOfOne s t) (ids_of_frozen b o) (ids_of_frozen t.volume.blocksize q)
   frozen_matched None None a sub = none
   frozen_matched None (Some q) a sub = absurd a
   frozen_matched (Some p) None a sub = absurd a
@@ -122,7 +122,7 @@ begun_alike moment s t d =
 last_alike : (p q : Frozen) → AreFrozenAlike p q → is_last_step q ≡ is_last_step p
 last_alike p q a = ap (λ n. nat_le n 1) a.due
 
-step_alike : (s t : Machine) (o u : Option Frozen) → s.frozen ≡ o → t.frozen ≡ u → MayBeAlike o u → DifferInIds s t → DifferInIds (stepped s o) (stepped t u)
+step_alike : (s t : Machine) (o u : Option Frozen) → s.frozen ≡ o → t.frozen ≡ u → AreBothAlike o u → DifferInIds s t → DifferInIds (stepped s o) (stepped t u)
 step_alike s t None None so tu a d = d
 step_alike s t None (Some q) so tu a d = absurd a
 step_alike s t (Some p) None so tu a d = absurd a
@@ -177,7 +177,7 @@ moves_alike moment [] s t d = d
 moves_alike moment (m ∷ ms) s t d = moves_alike moment ms (after_move moment s m) (after_move moment t m) (move_alike moment m s t d)
 
 -- and tell the same
-step_tells : (o u : Option Frozen) → MayBeAlike o u → told_by_step u ≡ told_by_step o
+step_tells : (o u : Option Frozen) → AreBothAlike o u → told_by_step u ≡ told_by_step o
 step_tells None None a = refl
 step_tells None (Some q) a = absurd a
 step_tells (Some p) None a = absurd a
@@ -210,7 +210,7 @@ module _ (e : Edit) (s t : Machine) (d : DifferInIds s t) (first : HasIds s) (se
       let there : HasPosition t.volume.blocksize u.tree p = subst (λ (v : Volume). HasPosition v.blocksize u.tree p) (sym d.same.volume) (subst (λ x. HasPosition s.volume.blocksize x p) (sym same) h) in
       (subst (λ n. n < s.next_id) is (below.below p h), subst (λ n. n < t.next_id) js (under.below p there))
 
-  frozen_below : (o u : Option Frozen) → MayBeAlike o u → HasFrozenIdsBelow s.volume.blocksize o s.next_id → HasFrozenIdsBelow t.volume.blocksize u t.next_id
+  frozen_below : (o u : Option Frozen) → AreBothAlike o u → HasFrozenIdsBelow s.volume.blocksize o s.next_id → HasFrozenIdsBelow t.volume.blocksize u t.next_id
       → (i j : ℕ) → HaveFrozenIds s.volume.blocksize o u i j → (i < s.next_id) × (j < t.next_id)
   frozen_below None u a below under i j h = absurd h
   frozen_below (Some p) None a below under i j h = absurd h
@@ -290,7 +290,7 @@ module _ (s t : Machine) (same : AreSameButIds s t) where
   have_back : (c u : Copy) → u.tree ≡ c.tree → (i j : ℕ) → HaveIds t.volume.blocksize u c j i → HaveIds s.volume.blocksize c u i j
   have_back c u tree i j (p, h, js, is) = (p, copy_back c u tree p h, is, js)
 
-  in_progress_back : (o q : Option Frozen) → MayBeAlike o q → (i j : ℕ) → HaveFrozenIds t.volume.blocksize q o j i → HaveFrozenIds s.volume.blocksize o q i j
+  in_progress_back : (o q : Option Frozen) → AreBothAlike o q → (i j : ℕ) → HaveFrozenIds t.volume.blocksize q o j i → HaveFrozenIds s.volume.blocksize o q i j
   in_progress_back None None a i j h = absurd h
   in_progress_back None (Some q) a i j h = absurd h
   in_progress_back (Some p) None a i j h = absurd h
@@ -312,7 +312,7 @@ module _ (s t : Machine) (same : AreSameButIds s t) where
       go (Some p) None h = absurd h
       go (Some p) (Some q) (x, h, is, js) = (x, h, is)
 
-alike_back : (o q : Option Frozen) → MayBeAlike o q → MayBeAlike q o
+alike_back : (o q : Option Frozen) → AreBothAlike o q → AreBothAlike q o
 alike_back None None a = tt
 alike_back None (Some q) a = absurd a
 alike_back (Some p) None a = absurd a

@@ -20,30 +20,30 @@ use Rattle.qx_model.specs.Snapshots.{Begin, Move, Step, after_moves, due_of, fin
 use Rattle.qx_model.specs.Decisions.{Attempt, Refuses, after_finish, after_more, after_snapshot, attempt, decided, decided_by_room, decision, first_attempt, frozen_serial, is_lacking, is_serial_end, last_serial}
 use Rattle.qx_model.specs.Plans.{Plan, Stays, changing_directory, decision_ending, decision_reply, directory_at, lacks_session, operating, plan, plan_of, planned, refused, snapshot_if_changed, sync_moves, syncing, syncing_path}
 use Rattle.qx_model.specs.TreeReads.{operation_start, reads_after, reads_tree, walk_start}
-use Rattle.qx_model.specs.NamedIds.{DifferInIds, MayBeAlike}
+use Rattle.qx_model.specs.NamedIds.{DifferInIds, AreBothAlike}
 use Rattle.qx_model.proofs.AlikeMachines.{dropped_alike, free_same, moves_alike, need_same, wanted_same}
 
 -- ---- what the frozen copies have in common
 
-pub due_same : (o u : Option Frozen) → MayBeAlike o u → due_of u ≡ due_of o
+pub due_same : (o u : Option Frozen) → AreBothAlike o u → due_of u ≡ due_of o
 due_same None None a = refl
 due_same None (Some q) a = absurd a
 due_same (Some p) None a = absurd a
 due_same (Some p) (Some q) a = a.due
 
-pub some_same : (o u : Option Frozen) → MayBeAlike o u → is_some u ≡ is_some o
+pub some_same : (o u : Option Frozen) → AreBothAlike o u → is_some u ≡ is_some o
 some_same None None a = refl
 some_same None (Some q) a = absurd a
 some_same (Some p) None a = absurd a
 some_same (Some p) (Some q) a = refl
 
-pub none_same : (o u : Option Frozen) → MayBeAlike o u → is_none u ≡ is_none o
+pub none_same : (o u : Option Frozen) → AreBothAlike o u → is_none u ≡ is_none o
 none_same None None a = refl
 none_same None (Some q) a = absurd a
 none_same (Some p) None a = absurd a
 none_same (Some p) (Some q) a = refl
 
-serial_same : (o u : Option Frozen) → MayBeAlike o u → frozen_serial u ≡ frozen_serial o
+serial_same : (o u : Option Frozen) → AreBothAlike o u → frozen_serial u ≡ frozen_serial o
 serial_same None None a = refl
 serial_same None (Some q) a = absurd a
 serial_same (Some p) None a = absurd a

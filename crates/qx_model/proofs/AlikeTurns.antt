@@ -6,7 +6,7 @@ use Rattle.qx_model.specs.Machine.{Machine}
 use Rattle.qx_model.specs.Snapshots.{Begin, Move, Step, after_moves, background_count, background_limit, interval, is_time_to_begin, told_along}
 use Rattle.qx_model.specs.Plans.{Plan, after_ending}
 use Rattle.qx_model.specs.TreeReads.{reads_tree}
-use Rattle.qx_model.specs.Next.{ActFault, ActResult, Cause, Faults, IsNext, MayCome, MayFail, MayFailAfter, MayFailInAct, MayRead, MemoryFails, ReadFails, StepFails, act_result, after_act, background_moves, begun_if, next_under, plan_under, steps_made, timed_begin, told_by_begin, told_by_fault}
+use Rattle.qx_model.specs.Next.{ActFault, ActResult, Cause, Faults, IsNextMove, MayCome, MayFail, MayFailAfter, MayFailInAct, MayRead, MemoryFails, ReadFails, StepFails, act_result, after_act, background_moves, begun_if, next_under, plan_under, steps_made, timed_begin, told_by_begin, told_by_fault}
 use Rattle.qx_model.specs.Ids.{HasIds}
 use Rattle.qx_model.specs.NamedIds.{DifferInIds}
 use Rattle.qx_model.proofs.PlanStarts.{plan_from}
@@ -110,7 +110,7 @@ module _ (f : Faults) (e : VolEvent) (s t : Machine) (first : HasIds s) (second 
       subst (λ ms. reads_tree n (after_moves e.moment (plan_under f t e).from (take n ms)) e ≡ true) (sym p.moves)
       (reads_same n (after_moves e.moment (plan_under f s e).from (take n (plan_under f s e).moves)) (after_moves e.moment (plan_under f t e).from (take n (plan_under f s e).moves)) e there ∙ h)
 
-  next_move_alike : (m : Move) (n : ℕ) → IsNext m (plan_under f s e) n → IsNext m (plan_under f t e) n
+  next_move_alike : (m : Move) (n : ℕ) → IsNextMove m (plan_under f s e) n → IsNextMove m (plan_under f t e) n
   next_move_alike m n h = let p = plans_alike in ap (λ ms. slice_get ms n) p.moves ∙ h
 
   fail_alike : (c : Cause) (n : ℕ) → MayFail c e (plan_under f s e) n → MayFail c e (plan_under f t e) n

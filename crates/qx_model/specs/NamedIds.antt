@@ -9,7 +9,7 @@ use Rattle.qx_model.specs.Machine.{Copy, Frozen, Machine, Snapshot}
 abbrev pub HaveIds : ℕ → Copy → Copy → ℕ → ℕ → Type 0
 HaveIds blocksize c d i j = (p : Position) × HasPosition blocksize c.tree p × (c.ids p ≡ i) × (d.ids p ≡ j)
 
--- so have two frozen copies
+-- the same of two frozen copies: where both are there, at some position of the first one's tree they have the ids i and j
 abbrev pub HaveFrozenIds : ℕ → Option Frozen → Option Frozen → ℕ → ℕ → Type 0
 HaveFrozenIds blocksize (Some p) (Some q) i j = HaveIds blocksize p.snapshot.copy q.snapshot.copy i j
 HaveFrozenIds blocksize (Some p) None i j = ⊥
@@ -33,24 +33,24 @@ pub record AreFrozenAlike (p q : Frozen) : Type 0 where
   pub snapshot : AreAlike p.snapshot q.snapshot
   pub due : q.due ≡ p.due
 
--- both are there, or neither is
-abbrev pub MayBeAlike : Option Frozen → Option Frozen → Type 0
-MayBeAlike None None = Unit {0}
-MayBeAlike None (Some q) = ⊥
-MayBeAlike (Some p) None = ⊥
-MayBeAlike (Some p) (Some q) = AreFrozenAlike p q
+-- there are two frozen copies that are alike, or neither machine has one
+abbrev pub AreBothAlike : Option Frozen → Option Frozen → Type 0
+AreBothAlike None None = Unit {0}
+AreBothAlike None (Some q) = ⊥
+AreBothAlike (Some p) None = ⊥
+AreBothAlike (Some p) (Some q) = AreFrozenAlike p q
 
 -- two machines are the same but for ids
 pub record AreSameButIds (s t : Machine) : Type 0 where
   pub volume : t.volume ≡ s.volume
   pub working : t.working.tree ≡ s.working.tree
   pub durable : AreAlike s.durable t.durable
-  pub frozen : MayBeAlike s.frozen t.frozen
+  pub frozen : AreBothAlike s.frozen t.frozen
   pub last_begin : t.last_begin ≡ s.last_begin
   pub changed : t.changed ≡ s.changed
   pub sessions : t.sessions ≡ s.sessions
 
--- and two blocks have one id in the first exactly where they have one in the second
+-- two machines are the same but for ids, and two blocks have one id in the first exactly where they have one in the second
 pub record DifferInIds (s t : Machine) : Type 0 where
   pub same : AreSameButIds s t
   pub ids : (i j k l : ℕ) → AreIdsOfOne s t i j → AreIdsOfOne s t k l → (i ≡ k) ↔ (j ≡ l)

@@ -43,7 +43,7 @@ pub record Transition : Type 0 where
 
 -- ---- the timed begin
 
--- the machine after it, by whether it is time and whether memory fails
+-- the machine after the timed begin, by whether it is time and whether memory fails
 abbrev pub begun_if : Bool → Bool → ℕ → Machine → Machine
 begun_if false fails moment s = s
 begun_if true false moment s = begun moment s
@@ -53,7 +53,7 @@ begun_if true true moment s = s
 abbrev pub timed_begin : Bool → ℕ → Machine → Machine
 timed_begin fails moment s = begun_if (is_time_to_begin s moment) fails moment s
 
--- that it finds none is told
+-- a timed begin that finds no memory is told
 abbrev pub told_by_begin : Bool → List Notice
 told_by_begin false = []
 told_by_begin true = notice.Memory ∷ []
@@ -101,17 +101,17 @@ after_act (Some fault) moment p = record {
 
 -- ---- the background steps
 
--- how many good ones are made: all that follow an act, or those before one fails; none where a step of the act failed
+-- how many good background steps are made: all that follow an act, or those before one fails; none where a step of the act failed
 abbrev pub steps_made : Bool → Option ℕ → Machine → ℕ
 steps_made true background s = 0
 steps_made false None s = background_count s
 steps_made false (Some good) s = good
 
--- those of a turn
+-- the background steps of a turn
 abbrev pub background_moves : Option ℕ → ActResult → List Move
 background_moves background a = replicate (steps_made a.is_step_failed background a.machine) Step
 
--- one that fails is told
+-- a background step that fails is told
 abbrev pub told_by_fault : Option ℕ → List Notice
 told_by_fault None = []
 told_by_fault (Some good) = notice.Device ∷ []
@@ -143,8 +143,8 @@ next s e = next_under no_faults s e
 -- ---- which faults may come
 
 -- this is the next move of a plan, after so many
-abbrev pub IsNext : Move → Plan → ℕ → Type 0
-IsNext m p moves = slice_get p.moves moves ≡ Some m
+abbrev pub IsNextMove : Move → Plan → ℕ → Type 0
+IsNextMove m p moves = slice_get p.moves moves ≡ Some m
 
 -- the act of an event reads the tree after so many moves of its plan
 abbrev pub MayRead : VolEvent → Plan → ℕ → Type 0
@@ -152,9 +152,9 @@ MayRead e p moves = reads_tree moves (after_moves e.moment p.from (take moves p.
 
 -- a step fails where it is the next move, a read where there is one; memory is wanting for a begin that is the next move, or for a read
 abbrev pub MayFail : Cause → VolEvent → Plan → ℕ → Type 0
-MayFail StepFails e p moves = IsNext Step p moves
+MayFail StepFails e p moves = IsNextMove Step p moves
 MayFail ReadFails e p moves = MayRead e p moves
-MayFail MemoryFails e p moves = IsNext Begin p moves ⊎ MayRead e p moves
+MayFail MemoryFails e p moves = IsNextMove Begin p moves ⊎ MayRead e p moves
 
 -- the act of an event may fail so
 abbrev pub MayFailInAct : Option ActFault → VolEvent → Plan → Type 0
