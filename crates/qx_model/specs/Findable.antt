@@ -32,7 +32,7 @@ IsFoundAmong u s t = (f : FoundTree) → Contains (found_in u) f → Contains (f
 abbrev pub during_act : Faults → Machine → VolEvent → ℕ → Machine
 during_act f s e k = after_moves e.moment (plan_under f s e).from (take k (moves_made f.act (plan_under f s e)))
 
--- and after the act and so many background steps
+-- the machine after the act of a turn and so many background steps
 abbrev pub during_steps : Faults → Machine → VolEvent → ℕ → Machine
 during_steps f s e k = after_moves e.moment (act_result f s e).machine (take k (background_moves f.background (act_result f s e)))
 

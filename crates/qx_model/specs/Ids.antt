@@ -9,12 +9,12 @@ pub record HasIdsBelow (blocksize : ℕ) (c : Copy) (n : ℕ) : Type 0 where
   pub below : (p : Position) → HasPosition blocksize c.tree p → c.ids p < n
   pub differ : (p q : Position) → HasPosition blocksize c.tree p → HasPosition blocksize c.tree q → c.ids p ≡ c.ids q → p ≡ q
 
--- the same of the frozen copy, if there is one
+-- so has each block of the frozen copy, if there is one
 abbrev pub HasFrozenIdsBelow : ℕ → Option Frozen → ℕ → Type 0
 HasFrozenIdsBelow blocksize None n = Unit {0}
 HasFrozenIdsBelow blocksize (Some p) n = HasIdsBelow blocksize p.snapshot.copy n
 
--- each block of each copy has, below the next id
+-- each block of each copy has an id of its own in that copy, below the next one
 pub record HasIds (s : Machine) : Type 0 where
   pub working : HasIdsBelow s.volume.blocksize s.working s.next_id
   pub durable : HasIdsBelow s.volume.blocksize s.durable.copy s.next_id

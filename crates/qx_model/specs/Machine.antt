@@ -36,23 +36,34 @@ session_count = 16
 
 -- ---- the state
 
--- what stays while a volume is mounted: the size of a block; how many blocks there are, and how many of them are for users; how many leaves the bitmap and the inodes of one half have; how many inodes there are; whether it is mounted for reading; and, where the blocks have no ids, as in a foreign image, how many are free
+-- what stays while a volume is mounted
 pub record Volume : Type 0 where
+  -- the bytes of a block
   pub blocksize : ℕ
+  -- all blocks, and those of them that are for users
   pub blocks : ℕ
   pub user : ℕ
+  -- how many leaves the bitmap and the inodes of one half have
   pub system_leaves : ℕ
+  -- how many inodes there are, live or not
   pub inodes : ℕ
+  -- it is mounted for reading
   pub is_read_only : Bool
+  -- how many blocks are free, where blocks have no ids, as in a foreign image
   pub free_without_ids : Option ℕ
 
--- the working copy; the durable one, of the last snapshot done; the frozen one, of a snapshot in progress; an id above all of theirs; the moment of the last begin; whether anything changed since; and the sessions
+-- the machine that a mounted volume is
 pub record Machine : Type 0 where
   pub volume : Volume
+  -- the copy that operations edit
   pub working : Copy
+  -- the copy of the last snapshot done
   pub durable : Snapshot
+  -- that of a snapshot in progress
   pub frozen : Option Frozen
+  -- an id above all of theirs
   pub next_id : ℕ
+  -- the moment of the last begin, and whether anything changed since
   pub last_begin : ℕ
   pub changed : Bool
   pub sessions : List Session
@@ -108,7 +119,7 @@ with_session k change s = record s { sessions = changed_at k change s.sessions }
 abbrev pub gone_to : ℕ → Session → Session
 gone_to d x = record x { directory = Some d }
 
--- one that holds, or holds no more
+-- a session that holds, or holds no more
 abbrev pub holding : Bool → Session → Session
 holding b x = record x { holds = b }
 

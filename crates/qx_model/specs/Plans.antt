@@ -72,7 +72,7 @@ decision_reply (Refuses r) = reply.Refused r
 decision_reply (Fits e) = effect_reply e
 decision_reply (Lacks need free) = reply.Refused (refusal.NoSpace need free)
 
--- and how that ends
+-- how a decision ends
 abbrev pub decision_ending : Decision → Ending
 decision_ending (Refuses r) = Stays
 decision_ending (Fits e) = effect_ending e
@@ -102,7 +102,7 @@ syncing moment s =
     if hold_count s == 0 then record { from = s; moves = sync_moves moment s; reply = reply.Done; ending = Stays }
     else refused s (refusal.Held (hold_count s))
 
--- the same, where a path leads somewhere
+-- a sync where a path leads somewhere
 abbrev pub syncing_path : ℕ → Machine → Result ℕ Refusal → Plan
 syncing_path moment s (Err r) = refused s r
 syncing_path moment s (Ok n) = syncing moment s

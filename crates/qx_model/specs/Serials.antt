@@ -9,7 +9,7 @@ pub record FollowsSerial (serial : ℕ) (p : Frozen) : Type 0 where
   pub within : p.snapshot.serial < 2 ^ 64
   pub unfinished : 0 < p.due
 
--- so does the one that there may be
+-- the frozen copy, if there is one, has the serial after the durable one
 abbrev pub MayFollowSerial : ℕ → Option Frozen → Type 0
 MayFollowSerial serial None = Unit {0}
 MayFollowSerial serial (Some p) = FollowsSerial serial p

@@ -55,22 +55,22 @@ after_moves moment s (m ∷ ms) = after_moves moment (after_move moment s m) ms
 
 -- ---- what is told
 
--- a snapshot that is done is told, with its serial
+-- what is told where a snapshot may be done: its serial, if it is
 abbrev pub told_if : Bool → Frozen → List Notice
 told_if true p = notice.Snapshot p.snapshot.serial ∷ []
 told_if false p = []
 
--- by a good step
+-- what a good step tells
 abbrev pub told_by_step : Option Frozen → List Notice
 told_by_step None = []
 told_by_step (Some p) = told_if (is_last_step p) p
 
--- by a move
+-- what a move tells
 abbrev pub told_by : Machine → Move → List Notice
 told_by s Begin = []
 told_by s Step = told_by_step s.frozen
 
--- by moves, one after another
+-- what moves tell, one after another
 abbrev pub told_along : ℕ → Machine → List Move → List Notice
 told_along moment s [] = []
 told_along moment s (m ∷ ms) = told_by s m ++ told_along moment (after_move moment s m) ms

@@ -14,20 +14,20 @@ use Rattle.qx_model.specs.Machine.{Copy, Frozen, Machine}
 abbrev pub ids_of : ℕ → Copy → List ℕ
 ids_of blocksize c = map c.ids (positions_of blocksize c.tree)
 
--- those of a frozen copy, if there is one
+-- the ids of a frozen copy's blocks, if there is one
 abbrev pub ids_of_frozen : ℕ → Option Frozen → List ℕ
 ids_of_frozen blocksize None = []
 ids_of_frozen blocksize (Some p) = ids_of blocksize p.snapshot.copy
 
--- those of the working copy
+-- the ids of the working copy's blocks
 abbrev pub working_ids : Machine → List ℕ
 working_ids s = ids_of s.volume.blocksize s.working
 
--- those of the durable copy
+-- the ids of the durable copy's blocks
 abbrev pub durable_ids : Machine → List ℕ
 durable_ids s = ids_of s.volume.blocksize s.durable.copy
 
--- those of the frozen and the durable copy, which no edit may write
+-- the ids of the frozen and the durable copy's blocks, which no edit may write
 abbrev pub snapshot_ids : Machine → List ℕ
 snapshot_ids s = ids_of_frozen s.volume.blocksize s.frozen ++ durable_ids s
 

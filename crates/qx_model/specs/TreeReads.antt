@@ -21,14 +21,14 @@ walk_start base path = do
   p ← parsed path
   start_of_walk p base
 
--- the same of a path that ends in a name
+-- the same of a path that ends in a name: its last name is looked at first
 abbrev pub name_start : Option ℕ → List ℕ → Result ℕ Refusal
 name_start base path = do
   p ← parsed path
   n ← named p
   start_of_walk n.parents base
 
--- the same of two paths, the first of which is walked first
+-- the same of two paths, whose last names are both looked at before the first is walked
 abbrev pub names_start : Option ℕ → List ℕ → List ℕ → Result ℕ Refusal
 names_start base from to = do
   p ← parsed from
@@ -83,7 +83,7 @@ reads_after moves s k act.Sync = false
 reads_after moves s k act.Tick = false
 reads_after moves s k act.End = false
 
--- the same of an event's act
+-- an event's act reads the tree after so many of its moves
 abbrev pub reads_tree : ℕ → Machine → VolEvent → Bool
 reads_tree moves s e = not (lacks_session e) && reads_after moves s e.session e.act
 

@@ -54,7 +54,7 @@ fresh_in_node blocksize old e private o =
     let after = shape_in blocksize e.tree o in
     positions_by (fresh_at blocksize before after (written_in o e.written) (private_in private o)) o after
 
--- those of the tree, in order of owner, level and index
+-- the positions of a tree that take a fresh block, in order of owner, level and index
 unfoldable pub fresh_positions : ℕ → Tree → Edit → (Position → Bool) → List Position
 fresh_positions blocksize old e private = flat_map (fresh_in_node blocksize old e private) (owners_of e.tree)
 

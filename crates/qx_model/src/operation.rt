@@ -60,7 +60,7 @@ pub enum Op {
         from: ByteList,
         to: ByteList,
     },
-    /// One more row for an inode that is no directory.
+    /// One more row for an inode that is no directory and no special.
     Link {
         old: ByteList,
         new: ByteList,

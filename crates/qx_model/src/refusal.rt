@@ -45,7 +45,7 @@ pub enum Refusal {
     SerialEnd,
     /// The number of the session is above 15.
     NoSession,
-    /// The line has no reading; so many of its bytes, at most 8,192, begin some line that has one.
+    /// The line has no reading; so many of its bytes begin some line that has one. Of a line above 8,192 bytes 8,192 is said.
     BadLine { at: u32 },
 }
 

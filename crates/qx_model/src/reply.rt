@@ -40,7 +40,7 @@ pub struct StatView {
 pub struct SpaceView {
     /// All blocks of the volume.
     pub blocks: u32,
-    /// The blocks for files, directories and names.
+    /// The blocks for files, directories and names; of a foreign image all blocks.
     pub user: u32,
     /// The blocks of these that no tree holds.
     pub free: u64,

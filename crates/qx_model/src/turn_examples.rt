@@ -28,7 +28,7 @@ pub fn a_fill_that_wants_a_snapshot()
     ensures lacks { turns_of (small 1000) (create (codes "a") ∷ fill (codes "a") 35328 ∷ end ∷ []) ≡ ok ∷ with_snapshot 3 (refuses (refusal.NoSpace 70 85)) ∷ ok ∷ [] }
 {}
 
-/// What the durable tree holds comes free with the next snapshot, and a removal may go into the reserve.
+/// What the durable tree holds comes free with the next snapshot alone, and a removal is done under a hold.
 pub fn a_removal_under_a_hold()
     ensures { turns_of (small 1000) (create (codes "a") ∷ fill (codes "a") 34304 ∷ sync ∷ by 0 act.Hold ∷ do_op (op.Remove (codes "a")) ∷ df ∷ create (codes "b")
         ∷ do_op (op.Write (codes "b") 0 (codes "x")) ∷ by 0 act.Unhold ∷ do_op (op.Write (codes "b") 0 (codes "x")) ∷ df ∷ end ∷ [])
