@@ -110,14 +110,14 @@ whole_more before bytes c b at q stop stands k = one_more before bytes c at q st
 })
 
 -- a byte word that goes wrong inside a byte
-goes_on : (p : Part) (before : List ℕ) (at stop : ℕ) (bytes : List ℕ) (q : ℕ) → Stands p before → at + left_of p ≤ stop → bytes_from p at stop bytes ≡ bad q → Completes (IsSpelt before) at bytes q stop
-goes_on part.Whole before at stop [] q stands room wrong = absurd (cc)
-goes_on part.Escaped before at stop [] q stands room wrong = completed_byte part.Escaped before [] at stop q stands (omega arith) room (one_place at q wrong)
-goes_on (part.Half high) before at stop [] q stands room wrong = completed_byte (part.Half high) before [] at stop q stands (omega arith) room (one_place at q wrong)
-goes_on p before at stop (c ∷ cs) q stands room wrong =
+is_further_digit : (p : Part) (before : List ℕ) (at stop : ℕ) (bytes : List ℕ) (q : ℕ) → Stands p before → at + left_of p ≤ stop → bytes_from p at stop bytes ≡ bad q → Completes (IsSpelt before) at bytes q stop
+is_further_digit part.Whole before at stop [] q stands room wrong = absurd (cc)
+is_further_digit part.Escaped before at stop [] q stands room wrong = completed_byte part.Escaped before [] at stop q stands (omega arith) room (one_place at q wrong)
+is_further_digit (part.Half high) before at stop [] q stands room wrong = completed_byte (part.Half high) before [] at stop q stands (omega arith) room (one_place at q wrong)
+is_further_digit p before at stop (c ∷ cs) q stands room wrong =
     by_said (step_of p at stop c) (says p before at stop c stands) (has_room p at stop c room) (sym (by_first p at stop (c ∷ cs)) ∙ wrong)
-    (λ h k. goes_on part.Whole [] (at + 1) stop cs q whole (omega (arith, h)) k)
-    (λ r s h k. goes_on r (before ++ c ∷ []) (at + 1) stop cs q s h k)
+    (λ h k. is_further_digit part.Whole [] (at + 1) stop cs q whole (omega (arith, h)) k)
+    (λ r s h k. is_further_digit r (before ++ c ∷ []) (at + 1) stop cs q s h k)
   where
     behind : (b : ℕ) (r : Reads (List ℕ)) → ahead (b ∷ []) r ≡ bad q → r ≡ bad q
     behind b (Ok t) e = absurd (cc)
@@ -139,7 +139,7 @@ word_completes at stop bytes q low wrong = by_result (bytes_from part.Whole at s
   where
     by_result : (r : Reads (List ℕ)) → bytes_from part.Whole at stop bytes ≡ r → some_bytes at r ≡ bad q → Completes (λ w. (v : List ℕ) × IsByteWord w v) at bytes q stop
     by_result (Err e) is got =
-        let k = goes_on part.Whole [] at stop bytes q whole (omega (arith, low)) (is ∙ got) in
+        let k = is_further_digit part.Whole [] at stop bytes q whole (omega (arith, low)) (is ∙ got) in
         record { front = k.front; tail = k.tail; rest = k.rest; split = k.split; place_is = k.place_is; is = (k.is.0, (spells_filled (k.front ++ k.rest) k.is.0 k.is.1 k.is.2, k.is.1)); room = k.room }
     by_result (Ok t) is got = by_value t.value got
       where

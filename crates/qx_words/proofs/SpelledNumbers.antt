@@ -4,7 +4,7 @@ use Rattle.std.specs.Prelude.{nat_lt, nat_le, ◌&&◌, if◌then◌else◌}
 use Rattle.std.proofs.lemmas.Bool.Decides.{nat_tests}
 use Rattle.std.proofs.lemmas.Fmt.{decimal_step, decimal_digit}
 use Rattle.qx_words.specs.Numbers.{IsNumber}
-use Rattle.qx_words.specs.Reading.{Taken, digits_from, first_digit_of, goes_on, is_digit, number_by, number_from}
+use Rattle.qx_words.specs.Reading.{Taken, digits_from, first_digit_of, is_further_digit, is_digit, number_by, number_from}
 
 -- what a further digit is
 pub record GoesOn (limit n c : ℕ) : Type 0 where
@@ -13,7 +13,7 @@ pub record GoesOn (limit n c : ℕ) : Type 0 where
   pub some : 0 < n
   pub most : 10 * n + (c - 48) ≤ limit
 
-goes_facts : (limit at stop n c : ℕ) → goes_on limit at stop n c ≡ true → GoesOn limit n c
+goes_facts : (limit at stop n c : ℕ) → is_further_digit limit at stop n c ≡ true → GoesOn limit n c
 goes_facts limit at stop n c e = record { low = grind (arith, nat_tests); high = grind (arith, nat_tests); some = grind (arith, nat_tests); most = grind (arith, nat_tests) }
 
 -- a number with one more digit
@@ -37,9 +37,9 @@ pub record IsCounted (limit n at : ℕ) (bytes : List ℕ) (r : Taken ℕ) : Typ
 pub counted : (limit at stop n : ℕ) (bytes : List ℕ) → limit < 2 ^ 64 → n ≤ limit → IsCounted limit n at bytes (digits_from limit at stop n bytes)
 counted limit at stop n [] fits within = record { front = []; rest = []; split = refl; text = append-nil (decimal n); place_is = omega arith; least = omega arith; most = within }
 counted limit at stop n (c ∷ cs) fits within =
-    by_test (goes_on limit at stop n c) refl (λ (k : 10 * n + (c - 48) ≤ limit). counted limit (at + 1) stop (10 * n + (c - 48)) cs fits k)
+    by_test (is_further_digit limit at stop n c) refl (λ (k : 10 * n + (c - 48) ≤ limit). counted limit (at + 1) stop (10 * n + (c - 48)) cs fits k)
   where
-    by_test : (b : Bool) → goes_on limit at stop n c ≡ b
+    by_test : (b : Bool) → is_further_digit limit at stop n c ≡ b
         → (10 * n + (c - 48) ≤ limit → IsCounted limit (10 * n + (c - 48)) (at + 1) cs (digits_from limit (at + 1) stop (10 * n + (c - 48)) cs))
         → IsCounted limit n at (c ∷ cs) (elim b [ true ↦ digits_from limit (at + 1) stop (10 * n + (c - 48)) cs | false ↦ record { value = n; place = at } ])
     by_test false is next = record { front = []; rest = c ∷ cs; split = refl; text = append-nil (decimal n); place_is = omega arith; least = omega arith; most = within }

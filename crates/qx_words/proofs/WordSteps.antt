@@ -8,7 +8,7 @@ use Rattle.qx_words.specs.declared.words.Part.TheVariants as part
 use Rattle.qx_words.specs.declared.words.WordStep.{WordStep}
 use Rattle.qx_words.specs.declared.words.WordStep.TheVariants as step
 use Rattle.qx_words.specs.Numbers.{is_octal_digit}
-use Rattle.qx_words.specs.Reading.{Reads, Taken, ahead, bad, bytes_from, digits_from, goes_on, next_digit, next_octal, number_by, octal_from, some_bytes, some_digits, step_here, step_of, taken}
+use Rattle.qx_words.specs.Reading.{Reads, Taken, ahead, bad, bytes_from, digits_from, is_further_digit, next_digit, next_octal, number_by, octal_from, some_bytes, some_digits, step_here, step_of, taken}
 
 -- what follows a step of a byte word
 abbrev pub by_step : WordStep → ℕ → ℕ → List ℕ → Reads (List ℕ)
@@ -71,7 +71,7 @@ digits_by limit at stop n (Some m) rest = digits_from limit (at + 1) stop m rest
 pub digits_first : (limit at stop n : ℕ) (bytes : List ℕ) → digits_from limit at stop n bytes ≡ digits_by limit at stop n (next_digit limit at stop n bytes) (drop 1 bytes)
 unfolding digits_by
 digits_first limit at stop n [] = refl
-digits_first limit at stop n (c ∷ cs) = by_test (goes_on limit at stop n c)
+digits_first limit at stop n (c ∷ cs) = by_test (is_further_digit limit at stop n c)
   where
     by_test : (b : Bool) → elim b [ true ↦ digits_from limit (at + 1) stop (10 * n + (c - 48)) cs | false ↦ record { value = n; place = at } ]
         ≡ digits_by limit at stop n (if b then Some (10 * n + (c - 48)) else None) cs

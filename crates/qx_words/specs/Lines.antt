@@ -78,7 +78,7 @@ pub record GoesWrongAt (bytes : List ℕ) (at : ℕ) : Type 0 where
   pub begins : BeginsLine (take at bytes)
   pub no_later : (k : ℕ) → at < k → k ≤ length bytes → BeginsLine (take k bytes) → ⊥
 
--- why bytes aren't read: they have no reading and go wrong there, where they are too long at the limit; or memory is wanting, which says nothing of them
+-- why bytes aren't read: they have no reading, and go wrong at that place, or are too long, and the place is the limit; or memory is wanting, which says nothing of them
 abbrev pub IsFaultOf : List ℕ → LineFault → Type 0
 IsFaultOf bytes (fault.BadLine at) = HasNoReading bytes × (((line_limit < length bytes) × (at ≡ line_limit)) ⊎ ((length bytes ≤ line_limit) × GoesWrongAt bytes at))
 IsFaultOf bytes fault.NoMemory = Unit {0}

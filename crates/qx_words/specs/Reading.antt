@@ -1,4 +1,4 @@
--- How a line is read, from its first byte to its last: what each part takes, and where it stops.
+-- The plain computable form beside `Lines`: how a line is read, from its first byte to its last, what each part takes, and where it stops. Laws join the two.
 use Rattle.std.specs.Prelude.{◌≡◌, ℕ, ◌+◌, ◌-◌, ◌*◌, ◌^◌, ◌<◌, Bool, true, false, ◌&&◌, List, [], ◌∷◌, ◌++◌, length, drop, max, fold, find, Option, Some, None, Result, Ok, Err, nat_lt, nat_le, ◌==◌, if◌then◌else◌, bytes_eq, codes}
 use Rattle.qx_model.specs.declared.turn.Act.{Act}
 use Rattle.qx_model.specs.declared.turn.Act.TheVariants as act
@@ -29,6 +29,7 @@ pub record Taken (A : Type 0) : Type 0 where
 abbrev pub Reads : Type 0 → Type 0
 Reads A = Result (Taken A) LineFault
 
+-- read, up to this place
 abbrev pub taken : {A : Type 0} → A → ℕ → Reads A
 taken value place = Ok (record { value = value; place = place })
 
@@ -48,16 +49,17 @@ then_read (Err e) next = Err e
 
 -- ---- byte words
 
--- a digit of an escaped byte, the first or the second
+-- what the first digit of an escaped byte does, if it is one
 abbrev pub first_digit : Option ℕ → WordStep
 first_digit None = step.Fails
 first_digit (Some high) = step.Inside (part.Half high)
 
+-- what the second one does
 abbrev pub second_digit : ℕ → Option ℕ → WordStep
 second_digit high None = step.Fails
 second_digit high (Some low) = step.Whole (16 * high + low)
 
--- the first digit that was read is one
+-- the part of a word that was read so far is one: half of an escaped byte is below 16
 abbrev pub IsPart : Part → Type 0
 IsPart part.Whole = Unit {0}
 IsPart part.Escaped = Unit {0}
@@ -117,14 +119,14 @@ word_from at stop bytes = some_bytes at (bytes_from part.Whole at stop bytes)
 abbrev pub is_digit : ℕ → Bool
 is_digit c = nat_le 48 c && nat_le c 57
 
--- a further digit is taken, where there is no leading zero and the number stays within the limit
-abbrev pub goes_on : ℕ → ℕ → ℕ → ℕ → ℕ → Bool
-goes_on limit at stop n c = is_digit c && (nat_lt at stop && (nat_lt 0 n && nat_le (10 * n + (c - 48)) limit))
+-- a byte is a further digit of a number, where there is no leading zero and the number stays within the limit
+abbrev pub is_further_digit : ℕ → ℕ → ℕ → ℕ → ℕ → Bool
+is_further_digit limit at stop n c = is_digit c && (nat_lt at stop && (nat_lt 0 n && nat_le (10 * n + (c - 48)) limit))
 
 -- the number as far as it goes
 abbrev pub digits_from : ℕ → ℕ → ℕ → ℕ → List ℕ → Taken ℕ
 digits_from limit at stop n [] = record { value = n; place = at }
-digits_from limit at stop n (c ∷ cs) = elim (goes_on limit at stop n c) [
+digits_from limit at stop n (c ∷ cs) = elim (is_further_digit limit at stop n c) [
   | true ↦ digits_from limit (at + 1) stop (10 * n + (c - 48)) cs
   | false ↦ record { value = n; place = at }
 ]
@@ -132,7 +134,7 @@ digits_from limit at stop n (c ∷ cs) = elim (goes_on limit at stop n c) [
 -- the number with the next digit
 abbrev pub next_digit : ℕ → ℕ → ℕ → ℕ → List ℕ → Option ℕ
 next_digit limit at stop n [] = None
-next_digit limit at stop n (c ∷ cs) = if goes_on limit at stop n c then Some (10 * n + (c - 48)) else None
+next_digit limit at stop n (c ∷ cs) = if is_further_digit limit at stop n c then Some (10 * n + (c - 48)) else None
 
 -- the first digit of a number from `low` on
 abbrev pub first_digit_of : ℕ → ℕ → ℕ → List ℕ → Option ℕ
@@ -171,10 +173,11 @@ mode_from at stop bytes = some_digits at (octal_from 4 at stop 0 bytes)
 
 -- ---- arguments
 
--- the arguments with one that was read
+-- the arguments with a byte word that was read
 abbrev pub with_bytes : (List ℕ → Arguments) → Reads (List ℕ) → Reads Arguments
 with_bytes f r = then_read r (λ t. taken (f t.value) t.place)
 
+-- the arguments with a number that was read
 abbrev pub with_number : (ℕ → Arguments) → Reads ℕ → Reads Arguments
 with_number f r = then_read r (λ t. taken (f t.value) t.place)
 
@@ -241,11 +244,12 @@ act_from v at line =
     if is_list v && at == length line then Ok (act.Op (op.List (codes ".")))
     else then_read (arguments_from (arguments_of v) at line no_arguments) (λ t. ended (act_of v t.value) t.place line)
 
--- the command from a place on
+-- the command of a verb, if there is one, from a place on
 abbrev pub command_by : Option Verb → ℕ → List ℕ → Result Act LineFault
 command_by None at line = bad (at + furthest (drop at line))
 command_by (Some v) at line = act_from v (at + length (name_of v)) line
 
+-- the command from a place on, by its name
 unfoldable pub command_from : ℕ → List ℕ → Result Act LineFault
 command_from at line = command_by (verb_named (first_word (drop at line))) at line
 

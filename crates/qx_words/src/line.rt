@@ -17,7 +17,7 @@ pub struct Line {
 /// Why bytes aren't read as a line.
 #[derive(Clone, Copy, Debug, PartialEq, Eq)]
 pub enum LineFault {
-    /// They have no reading; so many of them, at most 8,192, begin some line that has one.
+    /// They have no reading; so many of them begin some line that has one. Of more than 8,192 bytes 8,192 is said.
     BadLine { at: u32 },
     /// Memory is wanting.
     NoMemory,
