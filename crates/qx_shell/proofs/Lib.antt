@@ -5,7 +5,6 @@ pub mod QuietConsole
 pub mod MarkedMachines
 pub mod SyncedMachines
 pub mod LastTurns
-pub mod ReadAnswers
 pub mod QuietRuns
 pub mod AllowedTrees
 pub mod RunEnds

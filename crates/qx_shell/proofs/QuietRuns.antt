@@ -20,10 +20,11 @@ use Rattle.qx_words.specs.Lines.{IsFaultOf, IsLine}
 use Rattle.qx_words.specs.Reading.{line_from}
 use Rattle.qx_words.specs.Scripts.{event_by, output_of, told_by, told_then, unread}
 use Rattle.qx_words.specs.Texts.{last_text, turn_text}
+use Rattle.qx_words.proofs.FoundLines.{found_wrong}
+use Rattle.qx_words.proofs.ReadLines.{read_whole_line}
 use Rattle.qx_shell.specs.Occasions.{OfEnd, OfLine, Occasion}
 use Rattle.qx_shell.specs.MadeTurns.{AreMade, IsLineTurn, MadeTurn, Reach, end, is_read, is_unread, line, none, quit, texts_of}
 use Rattle.qx_shell.specs.Ends.{has_fault}
-use Rattle.qx_shell.proofs.ReadAnswers.{found_line, found_wrong}
 
 -- ---- notices of faults
 
@@ -98,7 +99,7 @@ record IsQuietLine (s : Machine) (moment : ℕ) (bytes : List ℕ) (said : Turn)
 read_quiet : (s : Machine) (moment : ℕ) (bytes : List ℕ) (said : Turn) (over : Bool) (t : Machine) (l : Line) → IsLine bytes l → over ≡ l.quit → Next s (event_by l.session l.act moment) said t → tells_of_fault said ≡ false
     → IsQuietLine s moment bytes said over t
 read_quiet s moment bytes said over t l reads ends turns quiet = record {
-  texts = λ rest. ap (λ r. told_by r s moment rest) (found_line bytes l reads)
+  texts = λ rest. ap (λ r. told_by r s moment rest) (read_whole_line bytes l reads)
       ∙ ap (λ (r : Transition). told_then l.quit r rest) (quiet_turn s t (event_by l.session l.act moment) said turns quiet)
       ∙ by_end l.quit over ends rest;
 }

@@ -1,4 +1,4 @@
--- Reading a line part by part finds it, or the place where it goes wrong.
+-- Reading a line part by part wants no memory, so it finds the place where a line goes wrong.
 use Rattle.std.proofs.Common.{◌≡◌, ◌⊎◌, inl, inr, ℕ, ◌+◌, ◌-◌, ◌^◌, ◌<◌, ◌≤◌, List, [], ◌∷◌, drop, length, Ok, Err, Option, Some, None, refl, sym, ◌∙◌, ap, arith}
 use Rattle.std.specs.Prelude.{Bool, true, false, Result, codes, nat_lt, ◌&&◌, ◌==◌, if◌then◌else◌}
 use Rattle.qx_model.specs.declared.operation.Op.TheVariants as op
@@ -11,10 +11,9 @@ use Rattle.qx_words.specs.declared.line.Line.{Line}
 use Rattle.qx_words.specs.declared.line.LineFault.{LineFault}
 use Rattle.qx_words.specs.declared.line.LineFault.TheVariants as fault
 use Rattle.qx_words.specs.Commands.{act_of, arguments_of, name_of, no_arguments}
-use Rattle.qx_words.specs.Lines.{GoesWrongAt, IsFaultOf, IsLine, line_by, line_limit}
+use Rattle.qx_words.specs.Lines.{GoesWrongAt, IsFaultOf, line_by, line_limit}
 use Rattle.qx_words.specs.Reading.{Reads, Taken, act_from, arguments_from, bad, command_by, command_from, ended, first_digit_of, first_word, is_list, line_from, number_by, number_from, session_from, space_at, taken, then_read, verb_named}
 use Rattle.qx_words.proofs.LineFaults.{goes_wrong, one_wrong}
-use Rattle.qx_words.proofs.ReadLines.{read_whole_line}
 use Rattle.qx_words.proofs.SameFronts.{arguments_start, place_of}
 use Rattle.qx_words.proofs.SpelledLines.{line_taken}
 
@@ -129,13 +128,9 @@ line_answers line = go (nat_lt line_limit (length line))
         then_answers (session_from line) (λ t. then_read (command_from t.place line) (λ a. Ok (line_by t.value a))) (session_answers line)
         (λ t. then_answers (command_from t.place line) (λ a. Ok (line_by t.value a)) (command_answers t.place line) (λ a. tt))
 
--- ---- what a line is read as
+-- ---- the place
 
--- a line's reading is found
-pub found_line : (line : List ℕ) (l : Line) → IsLine line l → line_from line ≡ Ok l
-found_line line l h = read_whole_line line l h
-
--- and the place where it goes wrong
+-- the place where a line goes wrong is found
 pub found_wrong : (line : List ℕ) (at : ℕ) → IsFaultOf line (fault.BadLine at) → line_from line ≡ bad at
 unfolding Answers
 found_wrong line at (none, place) = go (line_from line) refl (line_answers line)

@@ -15,3 +15,4 @@ pub mod LongestParts
 pub mod Completions
 pub mod CompletedLines
 pub mod LineFaults
+pub mod FoundLines

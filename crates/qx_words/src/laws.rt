@@ -12,8 +12,8 @@ pub fn one_reading()
     ensures found { (bytes : List ℕ) (l : Line) → (line_from bytes ≡ Ok l) ↔ IsLine bytes l }
 {}
 
-/// A line without a reading goes wrong in one place: what stands before begins a line with a reading, and no longer part does. Reading it part by part finds the place.
+/// A line without a reading goes wrong in one place: what stands before begins a line with a reading, and no longer part does. Reading it part by part finds the place; of a line above 8,192 bytes that is said to be 8192.
 pub fn where_a_line_goes_wrong()
     ensures one { (bytes : List ℕ) (at place : ℕ) → GoesWrongAt bytes at → GoesWrongAt bytes place → at ≡ place }
-    ensures found { (bytes : List ℕ) (at : ℕ) → line_from bytes ≡ bad at → IsFaultOf bytes (LineFault.BadLine at) }
+    ensures found { (bytes : List ℕ) (at : ℕ) → (line_from bytes ≡ bad at) ↔ IsFaultOf bytes (LineFault.BadLine at) }
 {}
