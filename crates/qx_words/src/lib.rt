@@ -10,6 +10,7 @@ mod grammar;
 mod laws;
 mod line;
 mod line_examples;
+mod random_scripts;
 mod reading;
 mod script_examples;
 mod text_examples;
@@ -19,6 +20,9 @@ mod words;
 pub use laws::{one_reading, where_a_line_goes_wrong};
 pub use line::{LINE_LIMIT, Line, LineFault};
 pub use line_examples::{lines_that_are_read, lines_that_go_wrong};
+pub use random_scripts::{
+    random_scripts_of_directories, random_scripts_of_names, random_scripts_that_lack_room,
+};
 pub use reading::read_line;
 pub use script_examples::{
     a_script_at_the_last_serial, a_script_of_directories, a_script_of_links,
