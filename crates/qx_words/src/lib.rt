@@ -13,6 +13,7 @@ mod line_examples;
 mod random_scripts;
 mod reading;
 mod script_examples;
+mod telling_scripts;
 mod text_examples;
 mod texts;
 mod words;
@@ -28,6 +29,10 @@ pub use script_examples::{
     a_script_at_the_last_serial, a_script_of_directories, a_script_of_links,
     a_script_of_two_sessions, a_script_under_a_hold, a_script_with_a_timed_snapshot,
     a_script_with_holes, lines_of_a_script, lines_without_a_reading,
+};
+pub use telling_scripts::{
+    removals_may_use_the_reserve, what_a_move_and_a_write_change, when_snapshots_are_made,
+    where_names_lead,
 };
 pub use text_examples::{the_texts_of_refusals, the_texts_of_replies};
 pub use texts::print_short;
