@@ -8,6 +8,7 @@ use Rattle.std.proofs.lemmas.List.FromFn.{length-range_with_len}
 use Rattle.qx_geom.proofs.ImagesAndFilters.{Contains-in, in_Contains}
 use Rattle.qx_geom.proofs.Members.{in_append_cases, in_left, in_right}
 use Rattle.qx_geom.specs.Lists.{is_in}
+use Rattle.qx_geom.specs.Room.{fits}
 use Rattle.qx_model.specs.declared.operation.Op.{Op}
 use Rattle.qx_model.specs.declared.refusal.Refusal.{Refusal}
 use Rattle.qx_model.specs.declared.refusal.Refusal.TheVariants as refusal
@@ -21,7 +22,7 @@ use Rattle.qx_model.specs.Operate.{operate}
 use Rattle.qx_model.specs.TreePositions.{HasPosition, Position, positions_of}
 use Rattle.qx_model.specs.TreeTouch.{rank_in}
 use Rattle.qx_model.specs.Machine.{Frozen, Machine, Volume, first_copy, setting_of, start_of}
-use Rattle.qx_model.specs.Space.{different_count, fits, free_count, fresh_in, held_count, id_by, ids_of, ids_of_frozen, is_private, need_of, snapshot_ids, working_ids}
+use Rattle.qx_model.specs.Space.{different_count, free_count, fresh_in, held_count, id_by, ids_of, ids_of_frozen, is_private, need_of, snapshot_ids, working_ids}
 use Rattle.qx_model.specs.Snapshots.{Begin, Move, Step, after_move, after_moves, begun, is_last_step, is_time_to_begin, step_to, stepped}
 use Rattle.qx_model.specs.Decisions.{Fits, Lacks, Refuses, decided, decision, is_serial_end}
 use Rattle.qx_model.specs.Plans.{Becomes, Ending, GoesTo, Holds, Stays, after_edit, after_ending, plan}

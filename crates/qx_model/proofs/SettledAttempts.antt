@@ -1,6 +1,7 @@
 -- An attempt stands where its moves lead, and decides what is decided there.
 use Rattle.std.proofs.Common.{◌≡◌, ℕ, refl, sym, ap, ◌∙◌}
 use Rattle.std.specs.Prelude.{Bool, true, false, ◌&&◌, List, Result, Ok, Err, is_some, ◌==◌, if◌then◌else◌}
+use Rattle.qx_geom.specs.Room.{fits}
 use Rattle.qx_model.specs.declared.operation.Op.{Op}
 use Rattle.qx_model.specs.declared.refusal.Refusal.{Refusal}
 use Rattle.qx_model.specs.declared.refusal.Refusal.TheVariants as refusal
@@ -9,7 +10,7 @@ use Rattle.qx_model.specs.Edits.{Edit}
 use Rattle.qx_model.specs.Effects.{Answers, Edits, Effect}
 use Rattle.qx_model.specs.Operate.{operate}
 use Rattle.qx_model.specs.Machine.{Machine, hold_count, setting_of}
-use Rattle.qx_model.specs.Space.{fits, free_count, need_of}
+use Rattle.qx_model.specs.Space.{free_count, need_of}
 use Rattle.qx_model.specs.Snapshots.{Move, after_moves, finishing, whole_snapshot}
 use Rattle.qx_model.specs.Decisions.{Attempt, Fits, Lacks, Refuses, after_finish, after_more, after_snapshot, attempt, decided, decision, first_attempt, is_lacking, is_serial_end}
 use Rattle.qx_model.proofs.MoveRuns.{after_moves-append}

@@ -3,6 +3,7 @@ use Rattle.std.proofs.Common.{◌≡◌, ℕ, zero, suc, inl, inr, List, [], ◌
 use Rattle.std.specs.Prelude.{Bool, true, false, not, ◌&&◌, ◌||◌, Option, Some, None, Result, Ok, Err, is_ok, is_some, slice_get, ◌==◌, if◌then◌else◌}
 use Rattle.std.specs.List.{list_any}
 use Rattle.qx_geom.proofs.Truths.{true_or_false}
+use Rattle.qx_geom.specs.Room.{fits}
 use Rattle.qx_model.specs.declared.notices.Notice.{Notice}
 use Rattle.qx_model.specs.declared.operation.Op.{Op}
 use Rattle.qx_model.specs.declared.refusal.Refusal.{Refusal}
@@ -19,7 +20,7 @@ use Rattle.qx_model.specs.Paths.{Followed, Itself, inode_at}
 use Rattle.qx_model.specs.Effects.{Answers, Edits, Effect}
 use Rattle.qx_model.specs.Operate.{operate}
 use Rattle.qx_model.specs.Machine.{Frozen, Machine, directory_of, hold_count, setting_of, without_holds}
-use Rattle.qx_model.specs.Space.{fits, free_count, need_of}
+use Rattle.qx_model.specs.Space.{free_count, need_of}
 use Rattle.qx_model.specs.Snapshots.{Begin, Move, Step, after_moves, begun, finishing, is_last_step, is_time_to_begin, stepped, told_along, told_by_step, told_if, whole_snapshot}
 use Rattle.qx_model.specs.Decisions.{Attempt, Fits, Lacks, Refuses, after_finish, after_more, after_snapshot, attempt, decided, decision, first_attempt, is_lacking, is_serial_end}
 use Rattle.qx_model.specs.Plans.{Plan, Stays, changing_directory, decision_reply, directory_at, lacks_session, operating, plan, plan_of, planned, refused, sync_moves, syncing, syncing_path}

@@ -1,5 +1,6 @@
 -- Whether an operation is refused, fits, or wants more room; and how it is decided again after snapshots.
 use Rattle.std.specs.Prelude.{ℕ, ◌-◌, ◌^◌, max, Bool, true, false, ◌&&◌, List, [], ◌++◌, Option, Some, None, is_some, Result, Ok, Err, ◌==◌, if◌then◌else◌}
+use Rattle.qx_geom.specs.Room.{fits}
 use Rattle.qx_model.specs.declared.operation.Op.{Op}
 use Rattle.qx_model.specs.declared.refusal.Refusal.{Refusal}
 use Rattle.qx_model.specs.declared.refusal.Refusal.TheVariants as refusal
@@ -8,7 +9,7 @@ use Rattle.qx_model.specs.Edits.{Edit}
 use Rattle.qx_model.specs.Effects.{Answers, Edits, Effect}
 use Rattle.qx_model.specs.Operate.{operate}
 use Rattle.qx_model.specs.Machine.{Frozen, Machine, hold_count, setting_of}
-use Rattle.qx_model.specs.Space.{fits, free_count, need_of}
+use Rattle.qx_model.specs.Space.{free_count, need_of}
 use Rattle.qx_model.specs.Snapshots.{Move, finishing, after_moves, whole_snapshot}
 
 -- ---- one decision

@@ -1,5 +1,5 @@
--- Ids of blocks: which copies hold them, what is free, what an edit needs, and whether it fits.
-use Rattle.std.specs.Prelude.{ℕ, ◌+◌, ◌-◌, Bool, not, ◌||◌, List, [], ◌∷◌, ◌++◌, length, map, Option, Some, None, unwrap_or, nat_le, ◌==◌, if◌then◌else◌}
+-- Ids of blocks: which copies hold them, what is free, and what an edit needs.
+use Rattle.std.specs.Prelude.{ℕ, ◌+◌, ◌-◌, Bool, not, List, [], ◌∷◌, ◌++◌, length, map, Option, Some, None, unwrap_or, ◌==◌, if◌then◌else◌}
 use Rattle.qx_geom.specs.Lists.{is_in}
 use Rattle.qx_model.specs.declared.reply.SpaceView.{SpaceView}
 use Rattle.qx_model.specs.Directories.{live_count}
@@ -85,13 +85,3 @@ abbrev pub with_edit : Edit → Machine → Machine
 with_edit e s =
     let fresh = fresh_in s e in
     record s { working = record { tree = e.tree; ids = renewed s.next_id fresh s.working.ids }; next_id = s.next_id + length fresh }
-
--- ---- room
-
--- the free blocks that only a removing operation may take
-abbrev pub reserve : ℕ
-reserve = 16
-
--- an operation fits: it needs nothing, or what it needs is free, and after one that doesn't remove the reserve is as well
-abbrev pub fits : Bool → ℕ → ℕ → Bool
-fits is_removing need free = (need == 0) || (if is_removing then nat_le need free else nat_le (need + reserve) free)

@@ -2,9 +2,10 @@
 #![tactic(auto, unfolding(crate::specs::Space::free_count, crate::specs::TreeTouch::fresh_positions, crate::specs::EmptyTree::empty_tree, qx_geom::specs::Layout::levels_for, qx_geom::specs::Positions::present_after))]
 
 ghost use Rattle.std.specs.Prelude.{◌≡◌, [], ◌∷◌, codes, replicate, true, false, ◌^◌, ◌-◌};
+ghost use Rattle.qx_geom.specs.Room.{fits};
 ghost use Rattle.qx_model.specs.declared.operation.Op.TheVariants as op;
 ghost use Rattle.qx_model.specs.Owners.{OfInode, OfLongfile};
-ghost use Rattle.qx_model.specs.Space.{fits, free_count, fresh_in, need_of};
+ghost use Rattle.qx_model.specs.Space.{free_count, fresh_in, need_of};
 ghost use Rattle.qx_model.specs.SmallVolume.{at_first, edit_by, edited, letters, made, position_at, small, tree_after};
 ghost use Rattle.qx_model.specs.TreePositions.{positions_of};
 
