@@ -359,6 +359,16 @@ def fresh_at(blocksize, old, new, written, private, k):
     return (here - there) | Numbers.of(j for j in here & there if is_fresh(blocksize, old, new, written, private, k, j))
 
 
+# qx_geom/Room
+
+greatest_end = 2**48
+reserve = 16
+
+
+def fits(is_removing, need, free):
+    return need == 0 or (need <= free if is_removing else need + reserve <= free)
+
+
 # qx_path/Names
 
 
@@ -512,6 +522,12 @@ def is_special_body(body):
     return isinstance(body, Special)
 
 
+dot_name = b"."
+dots_name = b".."
+record_size = 32
+longest_short_name = 27
+
+
 def is_dots(name):
     match len(name):
         case 0: return False
@@ -553,11 +569,12 @@ def OfInode(n):
 
 def new_directory(blocksize, number, parent, moment):
     return Entry(
-        attr=Attr(mode=0x41ED, uid=0, gid=0, ftime=moment, mtime=moment, atime=moment, ctime=moment),
+        attr=new_attr(directory_mode, moment),
         size=blocksize,
         present=Numbers.of([0]),
         body=Directory(
-            (Row(number, b".", None), Row(parent, b"..", None)) + (Unused(),) * (blocksize // 32 - 2), parent
+            (Row(number, dot_name, None), Row(parent, dots_name, None)) + (Unused(),) * (blocksize // record_size - 2),
+            parent,
         ),
     )
 
@@ -772,9 +789,9 @@ def lead_to(t, follow, n):
 
 
 def lead_in(t, follow, d, parent, name):
-    if name == b".":
+    if name == dot_name:
         return To(d)
-    if name == b"..":
+    if name == dots_name:
         return To(parent)
     return lead_to(t, follow, ok_or(inode_named(t, d, name), refusal.NoEntry()))
 
@@ -922,13 +939,19 @@ def with_attr(n, change, e):
     return altering(n, lambda x: replace(x, attr=change(x.attr)), e)
 
 
+kind_unit = 4096
+directory_mode = 0x41ED
+file_mode = 0x81A4
+link_mode = 0xA1FF
+
+
 def new_attr(mode, moment):
     return Attr(mode=mode, uid=0, gid=0, ftime=moment, mtime=moment, atime=moment, ctime=moment)
 
 
 def new_link(blocksize, moment, target):
     return Entry(
-        attr=new_attr(0xA1FF, moment),
+        attr=new_attr(link_mode, moment),
         size=len(target),
         present=range_with_len(0, ceil_div(len(target), blocksize)),
         body=Link(target),
@@ -945,7 +968,7 @@ def absent_number(t):
 
 
 def number_for(t, name):
-    return absent_number(t) if 27 < len(name) else None
+    return absent_number(t) if longest_short_name < len(name) else None
 
 
 def with_place(xs, k, x):
@@ -986,14 +1009,14 @@ def without_long(long, e):
 
 
 def leaf_of_record(blocksize, k):
-    return k * 32 // blocksize
+    return k * record_size // blocksize
 
 
 def with_slots(blocksize, slots, parent, leaf):
     return lambda e: replace(
         e,
-        size=32 * len(slots),
-        present=present_after(e.present, ceil_div(32 * len(slots), blocksize), Numbers.of([leaf]), None),
+        size=record_size * len(slots),
+        present=present_after(e.present, ceil_div(record_size * len(slots), blocksize), Numbers.of([leaf]), None),
         body=Directory(slots, parent),
     )
 
@@ -1006,7 +1029,7 @@ def writing_record(blocksize, d, k, slots, e):
 
 def slots_with(blocksize, slots, row):
     k = position_or_len(is_unused, slots)
-    return slice_set(slots, k, row) if k < len(slots) else slots + (row,) + (Unused(),) * (blocksize // 32 - 1)
+    return slice_set(slots, k, row) if k < len(slots) else slots + (row,) + (Unused(),) * (blocksize // record_size - 1)
 
 
 def add_row(s, d, n, name, e):
@@ -1059,7 +1082,7 @@ def lose_row(s, n, e):
 
 def with_parent(s, n, parent, e):
     slots = slots_of(e.tree, n)
-    k = position_or_len(lambda slot: has_name(b"..", slot), slots)
+    k = position_or_len(lambda slot: has_name(dots_name, slot), slots)
     leaf = leaf_of_record(s.blocksize, k)
     return writing(
         OfInode(n),
@@ -1183,7 +1206,7 @@ def made_at(s, t, p, n, e, leaves):
 
 
 def empty_file(moment):
-    return Entry(attr=new_attr(0x81A4, moment), size=0, present=Numbers(), body=File(Bytes()))
+    return Entry(attr=new_attr(file_mode, moment), size=0, present=Numbers(), body=File(Bytes()))
 
 
 def create(s, t, path):
@@ -1202,8 +1225,8 @@ def symlink(s, t, target, path):
     parsed(target)
     p = new_place(s, t, path)
     n = new_inode(t)
-    leaves = range_with_len(0, ceil_div(len(target), s.blocksize))
-    return done(made_at(s, t, p, n, new_link(s.blocksize, s.moment, target), leaves))
+    x = new_link(s.blocksize, s.moment, target)
+    return done(made_at(s, t, p, n, x, x.present))
 
 
 def link(s, t, old, new):
@@ -1321,8 +1344,6 @@ def rename(s, t, from_, to):
 
 # qx_model/Contents
 
-greatest_end = 2**48
-
 
 def with_content(blocksize, size, content, leaves):
     return lambda e: replace(
@@ -1381,7 +1402,7 @@ def truncate(s, t, path, size):
 
 
 def with_mode(moment, mode):
-    return lambda a: replace(a, mode=a.mode // 4096 * 4096 + mode % 4096, ctime=moment)
+    return lambda a: replace(a, mode=a.mode // kind_unit * kind_unit + mode % kind_unit, ctime=moment)
 
 
 def with_owner(moment, uid, gid):
@@ -1694,13 +1715,6 @@ def with_edit(e, s):
         working=Copy(tree=e.tree, ids=renewed(s.next_id, fresh, s.working.ids)),
         next_id=s.next_id + fresh.count(),
     )
-
-
-reserve = 16
-
-
-def fits(is_removing, need, free):
-    return need == 0 or (need <= free if is_removing else need + reserve <= free)
 
 
 # qx_model/SmallVolume
@@ -2411,13 +2425,13 @@ def is_digit(c):
     return 48 <= c <= 57
 
 
-def goes_on(limit, at, stop, n, c):
+def is_further_digit(limit, at, stop, n, c):
     return is_digit(c) and (at < stop and (0 < n and 10 * n + (c - 48) <= limit))
 
 
 def digits_from(limit, at, stop, n, bytes_):
     for c in bytes_:
-        if not goes_on(limit, at, stop, n, c):
+        if not is_further_digit(limit, at, stop, n, c):
             break
         at, n = at + 1, 10 * n + (c - 48)
     return Taken(n, at)
