@@ -1,0 +1,15 @@
+pub mod ShownContents
+pub mod ShownEntries
+pub mod ShownNames
+pub mod CopyLocality
+pub mod ReachedInodes
+pub mod CopyTrees
+pub mod RangeSums
+pub mod CountedPlaces
+pub mod LongRows
+pub mod ImageSizes
+pub mod ImageRows
+pub mod OwnImages
+pub mod OwnReasons
+pub mod SoundCopies
+pub mod SmallCopies

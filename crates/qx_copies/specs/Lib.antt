@@ -1,0 +1,5 @@
+pub mod Copies
+pub mod Shown
+pub mod Standing
+pub mod ImageCopies
+pub mod Examples
