@@ -128,7 +128,7 @@ reach_lacks m node words = not_so (is_in (present_of m node) (16 * per_block m.s
 -- ---- spans of leaves
 
 -- the leaves below a block, by those below each of its words
-power_down : (P l : ℕ) → l ≢ 0 → P ^ l ≡ P ^ (l - 1) * P
+pub power_down : (P l : ℕ) → l ≢ 0 → P ^ l ≡ P ^ (l - 1) * P
 power_down P zero above = absurd (above refl)
 power_down P (suc l) above = rw (sub-one, pow-suc P l) refl
 

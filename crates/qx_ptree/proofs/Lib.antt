@@ -55,6 +55,7 @@ pub mod PreparedBlocks
 pub mod ReadyPaths
 pub mod ReachedLeaves
 pub mod FirstHoles
+pub mod NextLeaves
 pub mod AgreeingPointers
 pub mod KeptNodes
 pub mod WaitingChanges

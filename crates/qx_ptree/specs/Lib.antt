@@ -14,5 +14,6 @@ pub mod ReadyLeaves
 pub mod PreparedNode
 pub mod Reaching
 pub mod Holes
+pub mod Present
 pub mod KeptNodes
 pub mod WaitingChanges

@@ -81,7 +81,7 @@ fn hole_below<B: Blocks>(
 }
 
 // Fills in the words of a pointer block.
-fn read_words<B: Blocks>(
+pub(crate) fn read_words<B: Blocks>(
     blocks: &mut B,
     order: Order,
     pointer: u32,

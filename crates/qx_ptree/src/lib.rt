@@ -19,6 +19,7 @@ mod pointer_blocks;
 mod pointers;
 mod prepared;
 mod preparing;
+mod present;
 mod ready_path;
 mod work;
 
@@ -35,4 +36,5 @@ pub use laws::{
 pub use leaf_path::leaf;
 pub use prepared::{Prepared, abandon, apart, commit};
 pub use preparing::prepare;
+pub use present::{Leaf, next_present};
 pub use ready_path::ready_leaf;
