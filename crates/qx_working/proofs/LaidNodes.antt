@@ -24,7 +24,7 @@ use Rattle.qx_working.specs.States.{copy_of, with_node_at, with_root}
 -- ---- laid nodes
 
 -- levels that fit are within bounds and reach the size
-levels_in : (size levels blocksize : ℕ) → IsTrue (nat_le levels 5 && (nat_le size (reach blocksize levels * blocksize) && nat_le size (2 ^ 48))) → (levels ≤ 5) × (size ≤ reach blocksize levels * blocksize)
+pub levels_in : (size levels blocksize : ℕ) → IsTrue (nat_le levels 5 && (nat_le size (reach blocksize levels * blocksize) && nat_le size (2 ^ 48))) → (levels ≤ 5) × (size ≤ reach blocksize levels * blocksize)
 levels_in size levels blocksize fit =
     let rest = and_right (nat_le levels 5) _ fit in
     (leb-true levels 5 (and_left (nat_le levels 5) _ fit), leb-true size (reach blocksize levels * blocksize) (and_left (nat_le size (reach blocksize levels * blocksize)) _ rest))
@@ -36,12 +36,12 @@ module _ (m : BlockState) (w : Working) (t : Tree) (consistent : IsConsistent m)
       let once = told.represents.undamaged.once in
       record {
         node = λ o node there.
-            let fit = levels_in node.size node.levels m.holdings.size (stands.bounded.levels o node there) in
+            let fit = levels_in node.size node.levels m.holdings.size (stands.readable.bounded.levels o node there) in
             record {
               consistent = consistent;
-              sixteen = stands.bounded.sixteen o node there;
+              sixteen = stands.readable.bounded.sixteen o node there;
               levels = record { most = fit.0; reached = fit.1 };
-              works = told.works o node there;
+              works = stands.readable.works tells o node there;
               regular = record { plain = own.nodes o node there; apart = λ u v among bmong same. (once o o node node u v there there among bmong same).1 };
             };
         apart = λ o q a b at bt differ u v among bmong same. differ (once o q a b u v at bt among bmong same).0;
