@@ -13,3 +13,5 @@ pub mod OwnImages
 pub mod OwnReasons
 pub mod SoundCopies
 pub mod SmallCopies
+pub mod MetPositions
+pub mod CopyPositions

@@ -9,6 +9,7 @@
 mod edit_laws;
 mod examples;
 mod laws;
+mod position_laws;
 
 pub use edit_laws::{an_inode_is_set, contents_that_are_the_same_show_the_same, long_names_change};
 pub use examples::the_copy_of_a_new_volume;
@@ -16,3 +17,4 @@ pub use laws::{
     a_copy_is_decided_by_its_blocks, a_sound_image_is_laid_out_as_its_own,
     no_reason_applies_to_an_own_copy, the_tree_of_an_image_is_its_inodes,
 };
+pub use position_laws::the_positions_of_a_copy_are_its_trees;
