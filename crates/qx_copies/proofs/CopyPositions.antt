@@ -1,5 +1,5 @@
 -- The positions of a copy that stands for a tree, and is laid out as this project does, are the tree's.
-use Rattle.std.proofs.Common.{◌≡◌, ℕ, zero, suc, refl, sym, ◌∙◌, ap, subst, arith}
+use Rattle.std.proofs.Common.{◌≡◌, ℕ, zero, suc, [], refl, sym, ◌∙◌, ap, subst, arith}
 use Rattle.std.specs.Prelude.{false, Option, Some, None, option_and_then, Contains}
 use Rattle.qx_geom.specs.declared.root.Root.{Root}
 use Rattle.qx_geom.specs.Positions.{Shape, shape_of}
@@ -25,9 +25,9 @@ use Rattle.qx_copies.proofs.MetPositions.{has_visit, one_visit, visit_has}
 
 -- ---- whose shape it is
 
--- a shape without a position, of what has no node; or the shape that a node's size and present leaves give
-data HasShape (m : BlockMap) (s : Shape) : Option Root → Type 0 where
-  Nothing : ((k j : ℕ) → node.HasPosition m.size s k j → ⊥) → HasShape m s None
+-- the shape of nothing, of what has no node; or the shape that a node's size and present leaves give
+pub data HasShape (m : BlockMap) (s : Shape) : Option Root → Type 0 where
+  Nothing : s ≡ shape_of m.size 0 [] → HasShape m s None
   OfNode : (x : Root) → s ≡ shape_of m.size x.size (present_of m x) → HasShape m s (Some x)
 
 -- what is held by a kind, of an inode with this root
@@ -36,12 +36,12 @@ held_shape : (m : BlockMap) (r : Reader) (root : Root) (k : Kind) (c : NodeConte
 held_shape m r root kinds.Directory c e is h = OfNode root (λ i. shape_of m.size ((h.size ∙ ap (λ (x : NodeContent). x.size) is) i) ((h.present ∙ ap (λ (x : NodeContent). x.present) is) i))
 held_shape m r root kinds.File c e is h = OfNode root (λ i. shape_of m.size ((h.size ∙ ap (λ (x : NodeContent). x.size) is) i) ((h.present ∙ ap (λ (x : NodeContent). x.present) is) i))
 held_shape m r root kinds.Link c e is h = OfNode root (λ i. shape_of m.size ((h.size ∙ ap (λ (x : NodeContent). x.size) is) i) ((h.present ∙ ap (λ (x : NodeContent). x.present) is) i))
-held_shape m r root kinds.Special c e is h = Nothing (λ k j has. nothing_there m.size k j (subst (λ s. node.HasPosition m.size s k j) (λ i. shape_of m.size (h.size i) (h.present i)) has))
+held_shape m r root kinds.Special c e is h = Nothing (λ i. shape_of m.size (h.size i) (h.present i))
 
 -- an inode and an entry that are the same
 inode_shape : (m : BlockMap) (r : Reader) (c : NodeContent) (x : Option Inode) (y : Option Entry) → c ≡ content_or_none m (option_and_then node_of_inode x) → IsSameInode r c x y
     → HasShape m (entry_shape m.size y) (option_and_then node_of_inode x)
-inode_shape m r c None None is same = Nothing (λ k j has. nothing_there m.size k j has)
+inode_shape m r c None None is same = Nothing refl
 inode_shape m r c (Some i) None is same = absurd same
 inode_shape m r c None (Some e) is same = absurd same
 inode_shape m r c (Some i) (Some e) is same =
@@ -58,11 +58,11 @@ numbered c (OfInode zero) x is = absurd (cc)
 numbered c (OfInode (suc k)) x is = (suc k, is)
 
 -- a node of the copy and the shape of its owner in the tree
-owner_shape : (m : BlockMap) (c : BlockCopy) (t : Tree) → Represents m c t → (o : Owner) → HasShape m (shape_in m.size t o) (node_of_owner c o)
-owner_shape m c t rep OfInodes = Nothing (λ k j has. nothing_there m.size k j has)
-owner_shape m c t rep (OfFurther n) = Nothing (λ k j has. nothing_there m.size k j has)
+pub owner_shape : (m : BlockMap) (c : BlockCopy) (t : Tree) → Represents m c t → (o : Owner) → HasShape m (shape_in m.size t o) (node_of_owner c o)
+owner_shape m c t rep OfInodes = Nothing refl
+owner_shape m c t rep (OfFurther n) = Nothing refl
 owner_shape m c t rep OfLongfile = OfNode c.longfile (λ i. shape_of m.size (rep.shows.long_size i) (rep.shows.long_present i))
-owner_shape m c t rep (OfInode zero) = Nothing (λ k j has. nothing_there m.size k j has)
+owner_shape m c t rep (OfInode zero) = Nothing refl
 owner_shape m c t rep (OfInode (suc n)) =
     inode_shape m (reader_by m.order m.size (contents_of m c 0)) (contents_of m c (suc n)) (inode_at c.inodes (suc n)) (entry_of t (suc n)) refl (rep.shows.each (suc n) (omega arith))
 
@@ -71,12 +71,12 @@ owner_shape m c t rep (OfInode (suc n)) =
 -- a position of a shape is one of a node, at which a block is met
 shape_stands : (m : BlockMap) (s : Shape) (o : Option Root) (k j : ℕ) → HasShape m s o → ((x : Root) → o ≡ Some x → is_foreign_node m x ≡ false) → node.HasPosition m.size s k j
     → (x : Root) × (o ≡ Some x) × ((b : ℕ) × Contains (visits_of m x) (record { level = k; index = j; block = b }))
-shape_stands m s o k j (Nothing out) plain has = absurd (out k j has)
+shape_stands m s o k j (Nothing none) plain has = absurd (nothing_there m.size k j (subst (λ s. node.HasPosition m.size s k j) none has))
 shape_stands m s o k j (OfNode x is) plain has = (x, refl, has_visit m x (plain x refl) k j (subst (λ s. node.HasPosition m.size s k j) is has))
 
 -- and where a block is met, the shape has the position
 shape_has : (m : BlockMap) (s : Shape) (o : Option Root) (x : Root) (v : Visit) → HasShape m s o → is_foreign_node m x ≡ false → o ≡ Some x → Contains (visits_of m x) v → node.HasPosition m.size s v.level v.index
-shape_has m s o x v (Nothing out) plain there met = absurd (cc)
+shape_has m s o x v (Nothing none) plain there met = absurd (cc)
 shape_has m s o x v (OfNode y is) plain there met =
     let same : y ≡ x = cc in
     subst (λ s. node.HasPosition m.size s v.level v.index) (sym (is ∙ ap (λ z. shape_of m.size z.size (present_of m z)) same)) (visit_has m x plain v met)

@@ -1,0 +1,3 @@
+pub mod PlannedEdits
+pub mod MovedNodes
+pub mod Placed

@@ -1,0 +1,13 @@
+//! Placing: what an edit of a tree needs, and where its blocks stand once it is made.
+//!
+//! Stands on `qx_batch` for nodes that are changed together, on `qx_copies` for what they stand for and on `qx_model` for edits, positions and ids; operations stand on it.
+//! Its contract: the laws below; `PlansEdit` of `specs/PlannedEdits.antt` says which edit some planned changes make, `AreMoved` of `specs/MovedNodes.antt` where blocks stand once they are made.
+//! Blocks are spoken of by positions alone, so that no operation's proof sees a pointer.
+//! It keeps no state and takes no memory; nothing in it runs.
+#![tactic(auto)]
+
+mod need_laws;
+mod place_laws;
+
+pub use need_laws::{an_edit_needs_what_its_changes_need, nodes_beside_a_copy};
+pub use place_laws::{where_the_blocks_of_an_edit_stand, where_the_nodes_of_changes_stand};
