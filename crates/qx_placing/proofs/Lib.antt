@@ -6,3 +6,6 @@ pub mod EditNeeds
 pub mod MovedBlocks
 pub mod StandingBlocks
 pub mod EditedPositions
+pub mod EditedCopies
+pub mod ReadAgain
+pub mod EditedStates

@@ -6,8 +6,10 @@
 //! It keeps no state and takes no memory; nothing in it runs.
 #![tactic(auto)]
 
+mod id_laws;
 mod need_laws;
 mod place_laws;
 
+pub use id_laws::{the_ids_of_an_edited_tree, the_working_tree_holds_the_edited_tree};
 pub use need_laws::{an_edit_needs_what_its_changes_need, nodes_beside_a_copy};
 pub use place_laws::{where_the_blocks_of_an_edit_stand, where_the_nodes_of_changes_stand};
