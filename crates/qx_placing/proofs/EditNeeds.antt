@@ -5,7 +5,8 @@ use Rattle.std.specs.List.{range_with_len}
 use Rattle.std.proofs.lemmas.Bool.{cases_lt}
 use Rattle.qx_fields.specs.declared.order.Order.{Order}
 use Rattle.qx_geom.specs.Positions.{Shape, at_level, each_once, index_above}
-use Rattle.qx_geom.specs.Touch.{is_fresh, need_of}
+use Rattle.qx_geom.specs.Touch.{is_fresh}
+use Rattle.qx_geom.specs.Touch as node
 use Rattle.qx_geom.proofs.ImagesAndFilters.{in_Contains}
 use Rattle.qx_blocks.specs.BlockState.{BlockState}
 use Rattle.qx_ptree.specs.Alterations.{fresh_count}
@@ -13,6 +14,8 @@ use Rattle.qx_batch.specs.declared.planned.Planned.{Planned}
 use Rattle.qx_batch.specs.Nodes.{Nodes}
 use Rattle.qx_batch.specs.Plans.{need_of_all, plan_alteration}
 use Rattle.qx_model.specs.Edits.{Edit}
+use Rattle.qx_model.specs.Machine.{Machine}
+use Rattle.qx_model.specs.Space.{is_private, need_of}
 use Rattle.qx_model.specs.Tree.{Tree}
 use Rattle.qx_model.specs.TreePositions.{Position, shape_in}
 use Rattle.qx_model.specs.TreeTouch.{fresh_positions, private_in, written_in}
@@ -32,8 +35,8 @@ no_level blocksize s k none = ap (λ xs. if nat_le k s.levels then each_once (ma
     go false = refl
 
 -- so a node that has nothing afterwards needs nothing
-pub no_need_after : (blocksize : ℕ) (old new : Shape) (ws : List ℕ) (p : ℕ → ℕ → Bool) → new.present ≡ [] → need_of blocksize old new ws p ≡ 0
-unfolding need_of
+pub no_need_after : (blocksize : ℕ) (old new : Shape) (ws : List ℕ) (p : ℕ → ℕ → Bool) → new.present ≡ [] → node.need_of blocksize old new ws p ≡ 0
+unfolding node.need_of
 no_need_after blocksize old new ws p none =
     sum_zero (λ k. length (filter (is_fresh blocksize old new ws p k) (at_level blocksize new k))) (range_with_len 0 (new.levels + 1))
     (λ k c. ap (λ xs. length (filter (is_fresh blocksize old new ws p k) xs)) (no_level blocksize new k none))
@@ -55,3 +58,9 @@ needs_same order m c t nodes ps e private pl are =
     ])
     (λ n out. needs_nothing size t e private (owner_of_number n) (pl.made.others n out) (pl.made.unwritten n out))
     ∙ sym (sum_owners (need_in size t e private) e.tree) ∙ sym (need_by_nodes size t e private)
+
+-- and that of the machine
+pub machine_needs : (order : Order) (m : BlockState) (c : BlockCopy) (nodes : Nodes) (ps : List Planned) (e : Edit) (s : Machine) → PlansEdit order m c s.working.tree nodes ps e → s.volume.blocksize ≡ m.holdings.size
+    → ArePrivate order m c (is_private s) → need_of_all order m ps ≡ need_of s e
+machine_needs order m c nodes ps e s pl same are =
+    needs_same order m c s.working.tree nodes ps e (is_private s) pl are ∙ ap (λ size. length (fresh_positions size s.working.tree e (is_private s))) (sym same)

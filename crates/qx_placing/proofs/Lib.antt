@@ -9,3 +9,7 @@ pub mod EditedPositions
 pub mod EditedCopies
 pub mod ReadAgain
 pub mod EditedStates
+pub mod SameMembers
+pub mod LostPositions
+pub mod HeldAfter
+pub mod FreeAfter

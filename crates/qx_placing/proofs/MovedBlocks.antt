@@ -1,5 +1,5 @@
 -- Where the blocks of nodes stand that changes made, and that puts leave them there.
-use Rattle.std.proofs.Common.{◌≡◌, ℕ, ◌+◌, List, ◌∙◌, ap, subst}
+use Rattle.std.proofs.Common.{◌≡◌, ℕ, ◌+◌, List, [], refl, ◌∙◌, ap, subst, arith}
 use Rattle.std.specs.Prelude.{false, ◌||◌, IsTrue, Contains}
 use Rattle.qx_fields.specs.declared.order.Order.{Order}
 use Rattle.qx_geom.specs.Lists.{is_in}
@@ -11,7 +11,7 @@ use Rattle.qx_ptree.specs.Trees.{block_map}
 use Rattle.qx_batch.specs.declared.planned.Planned.{Planned}
 use Rattle.qx_batch.specs.Batches.{LeavesShared}
 use Rattle.qx_batch.specs.Changes.{AreChanged}
-use Rattle.qx_batch.specs.Nodes.{Nodes}
+use Rattle.qx_batch.specs.Nodes.{AreLaid, Nodes}
 use Rattle.qx_batch.specs.Plans.{need_of_all}
 use Rattle.qx_batch.specs.PutNodes.{ArePut}
 use Rattle.qx_placing.specs.MovedNodes.{AreMoved, KeepsShared}
@@ -54,6 +54,18 @@ moved_put order nodes after m n o ps owner at bytes mv put = record {
   none = mv.none;
   all_met = λ all. put.all_met (mv.all_met all);
   free = ap (λ (h : Holdings). h.free + need_of_all order m ps) put.holdings ∙ mv.free;
+}
+
+-- nothing was changed
+pub moved_none : (order : Order) (nodes : Nodes) (m : BlockState) → AreLaid order m nodes → AreMoved order nodes nodes m m []
+moved_none order nodes m laid = record {
+  size = refl;
+  laid = laid;
+  moved = λ p c. absurd (omega (arith, c.1));
+  still = λ o node at out. record { is = at; visits = refl; private = λ v met. refl };
+  none = λ o out. out;
+  all_met = λ all. all;
+  free = refl;
 }
 
 -- blocks of other trees, from before a preparation to behind the commit

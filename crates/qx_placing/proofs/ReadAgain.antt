@@ -70,10 +70,14 @@ pub snapshot_below : (s : Machine) (i : ℕ) → HasIds s → IsInSnapshots s i 
 snapshot_below s i ids (inl u) = subst (λ x. x < s.next_id) u.2 (ids.durable.below u.0 u.1)
 snapshot_below s i ids (inr u) = frozen_below s.volume.blocksize s.next_id s.frozen i ids.frozen u
 
+-- so a new id is none of theirs
+pub new_apart : (s : Machine) (k : ℕ) → HasIds s → is_in (snapshot_ids s) (s.next_id + k) ≡ false
+new_apart s k ids = not_so (is_in (snapshot_ids s) (s.next_id + k)) (λ t. let low = snapshot_below s (s.next_id + k) ids (listed_snapshot s (s.next_id + k) t) in omega (arith, low))
+
 -- ---- an edit
 
 -- what has a rank is listed
-ranked : (xs : List Position) (p : Position) (k : ℕ) → rank_in xs p ≡ Some k → Contains xs p
+pub ranked : (xs : List Position) (p : Position) (k : ℕ) → rank_in xs p ≡ Some k → Contains xs p
 ranked xs p k is = (k, rank_in-lt xs p k is, get_or_from_slice_get xs k p p (rank_in-get xs p k is))
 
 module _ (order : Order) (m n : BlockState) (c d : BlockCopy) (nodes after : Nodes) (ps : List Planned) (e : Edit) (s : Machine) (block : ℕ → ℕ) (ed : IsEdited order m n c d s.working.tree nodes after ps e)
@@ -147,14 +151,10 @@ module _ (order : Order) (m n : BlockState) (c d : BlockCopy) (nodes after : Nod
           (subst (λ b. IsTrue (n.holdings.held b)) (r.read u.0 u.1) (stands_held order m n c d s.working.tree nodes after ps e ed u.0 (block_at (block_map order n) d u.0) (stands_new u.0 u.1)))
       used_held i (inr u) = snapshot_held i u
 
-      -- a new id is none of a snapshot's
-      new_private : (k : ℕ) → is_in (snapshot_ids s) (s.next_id + k) ≡ false
-      new_private k = not_so (is_in (snapshot_ids s) (s.next_id + k)) (λ t. let low = snapshot_below s (s.next_id + k) ids (listed_snapshot s (s.next_id + k) t) in omega (arith, low))
-
       private_by : (p : Position) (b : ℕ) (o : Option ℕ) → StandsAt (block_map order n) d p b → rank_in (fresh_in s e) p ≡ o → n.holdings.private b ≡ not (is_in (snapshot_ids s) (id_by s.next_id o (s.working.ids p)))
       private_by p b None st is = (stands_still order m n c d s.working.tree nodes after ps e (is_private s) ed ra.private p b st (not_fresh_here p is)).1
       private_by p b (Some k) st is =
-          (stands_fresh order m n c d s.working.tree nodes after ps e (is_private s) ed ra.private p b st (fresh_here p (ranked (fresh_in s e) p k is))).1 ∙ sym (ap not (new_private k))
+          (stands_fresh order m n c d s.working.tree nodes after ps e (is_private s) ed ra.private p b st (fresh_here p (ranked (fresh_in s e) p k is))).1 ∙ sym (ap not (new_apart s k ids))
 
       pub read_again : IsReadAs order n d (with_edit e s) r.later
       read_again = record {

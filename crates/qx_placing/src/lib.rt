@@ -9,7 +9,9 @@
 mod id_laws;
 mod need_laws;
 mod place_laws;
+mod room_laws;
 
 pub use id_laws::{the_ids_of_an_edited_tree, the_working_tree_holds_the_edited_tree};
 pub use need_laws::{an_edit_needs_what_its_changes_need, nodes_beside_a_copy};
 pub use place_laws::{where_the_blocks_of_an_edit_stand, where_the_nodes_of_changes_stand};
+pub use room_laws::what_an_edit_gives_up;
