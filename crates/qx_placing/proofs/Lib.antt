@@ -13,3 +13,5 @@ pub mod SameMembers
 pub mod LostPositions
 pub mod HeldAfter
 pub mod FreeAfter
+pub mod ShownShapes
+pub mod LaidCopies

@@ -1,3 +1,4 @@
 pub mod PlannedEdits
 pub mod MovedNodes
 pub mod Placed
+pub mod Resized
