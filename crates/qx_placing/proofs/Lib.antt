@@ -15,3 +15,5 @@ pub mod HeldAfter
 pub mod FreeAfter
 pub mod ShownShapes
 pub mod LaidCopies
+pub mod WrittenLeaves
+pub mod FirstReadings

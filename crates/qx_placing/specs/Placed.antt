@@ -1,5 +1,5 @@
 -- Blocks by positions, and by the ids of a machine.
-use Rattle.std.specs.Prelude.{◌≡◌, ℕ, Bool, not, ◌&&◌, List, filter, Option, Some, None, IsTrue}
+use Rattle.std.specs.Prelude.{◌≡◌, ℕ, Bool, not, ◌&&◌, List, filter, Option, Some, None, IsTrue, slice_get}
 use Rattle.qx_fields.specs.declared.order.Order.{Order}
 use Rattle.qx_geom.specs.declared.root.Root.{Root}
 use Rattle.qx_geom.specs.Touch.{is_fresh}
@@ -27,6 +27,15 @@ block_in m (Some node) k j = pointer_at m node k j
 -- the block at a position of a copy
 abbrev pub block_at : BlockMap → BlockCopy → Position → ℕ
 block_at m c p = block_in m (node_of_owner c p.owner) p.level p.index
+
+-- the block at a position, if there is one
+abbrev pub block_where : BlockMap → BlockCopy → Option Position → ℕ
+block_where m c None = 0
+block_where m c (Some p) = block_at m c p
+
+-- the block of an id that is a position's rank, as all are at a mount
+abbrev pub first_block : BlockMap → BlockCopy → ℕ → Tree → ℕ → ℕ
+first_block m c blocksize t i = block_where m c (slice_get (positions_of blocksize t) i)
 
 -- ---- what an edit gives up
 
