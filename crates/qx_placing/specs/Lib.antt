@@ -1,4 +1,5 @@
 pub mod PlannedEdits
+pub mod WrittenLeaves
 pub mod MovedNodes
 pub mod Placed
 pub mod Resized

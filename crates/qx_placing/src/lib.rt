@@ -11,14 +11,15 @@ mod id_laws;
 mod need_laws;
 mod place_laws;
 mod room_laws;
+mod write_laws;
 
 pub use copy_laws::a_copy_of_laid_nodes_stands_for_what_it_shows;
 pub use id_laws::{
     the_ids_of_a_mounted_tree, the_ids_of_an_edited_tree, the_working_tree_holds_the_edited_tree,
 };
 pub use need_laws::{
-    an_edit_is_made_by_what_is_shown, an_edit_needs_what_its_changes_need,
-    leaves_are_written_step_by_step, nodes_beside_a_copy,
+    an_edit_is_made_by_what_is_shown, an_edit_needs_what_its_changes_need, nodes_beside_a_copy,
 };
 pub use place_laws::{where_the_blocks_of_an_edit_stand, where_the_nodes_of_changes_stand};
 pub use room_laws::what_an_edit_gives_up;
+pub use write_laws::leaves_are_written_step_by_step;

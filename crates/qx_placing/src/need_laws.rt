@@ -1,5 +1,5 @@
 //! What an edit of a tree needs that planned changes of nodes make.
-ghost use Rattle.std.specs.Prelude.{◌≡◌, ◌≢◌, ◌++◌, ℕ, Bool, false, List, [], Some, None, Contains, length};
+ghost use Rattle.std.specs.Prelude.{◌≡◌, ℕ, Bool, false, List, [], Some, None, Contains, length};
 ghost use Rattle.qx_fields.specs.declared.order.Order.{Order};
 ghost use Rattle.qx_blocks.specs.BlockState.{BlockState};
 ghost use Rattle.qx_geom.specs.Lists.{is_in};
@@ -8,9 +8,8 @@ ghost use Rattle.qx_ptree.specs.Trees.{block_map, empty_node};
 ghost use Rattle.qx_batch.specs.declared.planned.Planned.{Planned};
 ghost use Rattle.qx_batch.specs.Nodes.{AreLaid, AreNodesOf, Nodes, owners_of, with_node};
 ghost use Rattle.qx_batch.specs.Plans.{need_of_all};
-ghost use Rattle.qx_model.specs.Edits.{Edit, writing};
+ghost use Rattle.qx_model.specs.Edits.{Edit};
 ghost use Rattle.qx_model.specs.Machine.{Machine};
-ghost use Rattle.qx_model.specs.Owners.{Owner};
 ghost use Rattle.qx_model.specs.Space.{is_private, need_of};
 ghost use Rattle.qx_model.specs.Tree.{Tree};
 ghost use Rattle.qx_model.specs.TreePositions.{Position};
@@ -41,10 +40,4 @@ pub fn an_edit_is_made_by_what_is_shown()
         → AreNodesOf nodes ps → Shows order m.holdings.size d.inodes held e.tree → HoldNothingElse d held → AreResized m.holdings.size ps (contents_of (block_map order m) c) held
         → ((p : Planned) → Contains ps p → (i : ℕ) → is_in (written_in (owner_of_number p.owner) e.written) i ≡ is_in (written_by p.change) i)
         → ((o : ℕ) → is_in (owners_of ps) o ≡ false → written_in (owner_of_number o) e.written ≡ []) → IsMadeBy order m t e ps }
-{}
-
-/// What an edit writes, one step more.
-pub fn leaves_are_written_step_by_step()
-    ensures own { (o : Owner) (leaves : List ℕ) (e : Edit) → written_in o (writing o leaves e).written ≡ written_in o e.written ++ leaves }
-    ensures other { (o owner : Owner) (leaves : List ℕ) (e : Edit) → o ≢ owner → written_in o (writing owner leaves e).written ≡ written_in o e.written }
 {}
