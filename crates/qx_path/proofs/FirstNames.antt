@@ -6,12 +6,12 @@ use Rattle.std.proofs.lemmas.Bool.{cases_lt, lt-ltb, le-ltb}
 use Rattle.qx_path.specs.Names.{first_length, is_empty, is_slash, names_in}
 
 -- the pieces behind a first one that ends where these bytes begin
-abbrev pieces_behind : List ℕ → List (List ℕ)
+abbrev pub pieces_behind : List ℕ → List (List ℕ)
 pieces_behind [] = []
 pieces_behind (byte ∷ bytes) = slice_split is_slash bytes
 
 -- the first piece ends before the first slash
-pieces-first : (bytes : List ℕ) → slice_split is_slash bytes ≡ take (first_length bytes) bytes ∷ pieces_behind (drop (first_length bytes) bytes)
+pub pieces-first : (bytes : List ℕ) → slice_split is_slash bytes ≡ take (first_length bytes) bytes ∷ pieces_behind (drop (first_length bytes) bytes)
 pieces-first [] = refl
 pieces-first (byte ∷ bytes) =
     elim (is_slash byte) as (λ t. cond t ([] ∷ slice_split is_slash bytes) (onto_first byte (slice_split is_slash bytes)) ≡ take (cond (not t) (1 + first_length bytes) 0) (byte ∷ bytes) ∷ pieces_behind (drop (cond (not t) (1 + first_length bytes) 0) (byte ∷ bytes))) [

@@ -1,2 +1,3 @@
 pub mod FirstNames
+pub mod JoinedNames
 pub mod NamesOfPaths

@@ -1,5 +1,5 @@
 -- The names between the slashes of a path.
-use Rattle.std.specs.Prelude.{ℕ, Bool, false, not, List, [], ◌∷◌, length, filter, ◌==◌}
+use Rattle.std.specs.Prelude.{◌≡◌, ℕ, ◌++◌, Bool, false, not, List, [], ◌∷◌, length, filter, ◌==◌}
 use Rattle.std.specs.List.{position_or_len, slice_split}
 
 -- no element
@@ -14,6 +14,10 @@ is_slash byte = byte == 47
 abbrev pub begins_with_slash : List ℕ → Bool
 begins_with_slash [] = false
 begins_with_slash (byte ∷ bytes) = is_slash byte
+
+-- the last byte, where there is one, is no slash
+abbrev pub EndsNoSlash : List ℕ → Type 0
+EndsNoSlash bytes = (front : List ℕ) → ¬ (bytes ≡ front ++ 47 ∷ [])
 
 -- the pieces between slashes that aren't empty
 abbrev pub names_in : List ℕ → List (List ℕ)

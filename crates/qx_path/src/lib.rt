@@ -7,10 +7,12 @@
 #![tactic(auto)]
 
 mod fault;
+mod laws;
 mod names;
 mod path;
 
 pub use fault::PathFault;
+pub use laws::names_of_joined_bytes;
 pub use names::Components;
 pub use path::Path;
 

@@ -1,10 +1,12 @@
 //! A path over the bytes that it is lent.
-ghost use Rattle.std.specs.Prelude.{◌≡◌, true, IfSome, length, nat_lt};
+ghost use Rattle.std.specs.Prelude.{◌≡◌, ◌-◌, true, IfSome, length, nat_lt, take};
 ghost use Rattle.std.specs.List.{list_all, list_any};
 ghost use Rattle.std.specs.Option.{option_copied};
+ghost use Rattle.qx_path.specs.Names.{names_in};
 ghost use Rattle.qx_path.specs.NamesLeft.{names_left};
 ghost use Rattle.qx_path.specs.PathParts.{is_name, last_name, path_of};
 
+use crate::names::before_last_name;
 use crate::{Components, PathFault};
 use std::marker::Model;
 
@@ -76,6 +78,13 @@ impl<'a> Path<'a> {
             last = Some(name);
         }
         last
+    }
+
+    /// The bytes before its last name, which have all other names.
+    pub fn parents(&self) -> &'a [u8]
+        ensures { names_in result.now ≡ take (length self.now.names - 1) self.now.names }
+    {
+        before_last_name(self.bytes)
     }
 }
 

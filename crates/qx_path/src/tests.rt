@@ -1,5 +1,5 @@
 //! Paths by rows, with the limits at their ends.
-use crate::{Path, PathFault};
+use crate::{Components, Path, PathFault};
 use std::alloc::{AllocError, Global};
 use std::test::Fail;
 
@@ -63,10 +63,10 @@ fn the_limits_of_a_path(rt: HostRuntime) -> Result<(), Fail> {
     Ok(())
 }
 
-// The names of a path, each with a bar behind it.
-fn joined(alloc: Global, path: &Path<'_>) -> Result<Vec<u8>, AllocError> {
+// Names, each with a bar behind it.
+fn joined(alloc: Global, names: Components<'_>) -> Result<Vec<u8>, AllocError> {
     let mut bytes = Vec::new(alloc);
-    for name in path.components() {
+    for name in names {
         bytes.extend_from_slice(name)?;
         bytes.push(b'|')?;
     }
@@ -87,8 +87,40 @@ fn a_path_has_the_names_between_its_slashes(rt: HostRuntime) -> Result<(), Fail>
     for (bytes, absolute, names, last) in cases {
         let path = Path::parse(bytes).ok().ok_or("no path")?;
         assert_eq!(rt; path.absolute(), absolute);
-        assert_eq!(rt; joined(rt.alloc(), &path)?.as_slice(), names);
+        assert_eq!(rt; joined(rt.alloc(), path.components())?.as_slice(), names);
         assert_eq!(rt; path.last().unwrap_or(b"none"), last);
     }
+    Ok(())
+}
+
+#[test]
+fn the_last_name_stands_behind_the_others(rt: HostRuntime) -> Result<(), Fail> {
+    let cases: [(&[u8], &[u8]); 7] = [
+        (b"//a//b//c/", b"a|b|"),
+        (b"a/b", b"a|"),
+        (b"a", b""),
+        (b"/a//", b""),
+        (b"/", b""),
+        (b"/..", b""),
+        (b"./ab", b".|"),
+    ];
+    for (bytes, names) in cases {
+        let path = Path::parse(bytes).ok().ok_or("no path")?;
+        let parents = Components::new(path.parents());
+        assert_eq!(rt; joined(rt.alloc(), parents)?.as_slice(), names);
+    }
+    Ok(())
+}
+
+#[test]
+fn names_are_left_until_the_last(rt: HostRuntime) -> Result<(), Fail> {
+    let mut names = Components::new(b"/a//bc/");
+    assert!(rt; !names.is_empty());
+    assert_eq!(rt; names.next(), Some(b"a".as_slice()));
+    assert!(rt; !names.is_empty());
+    assert_eq!(rt; names.rest(), b"//bc/".as_slice());
+    assert_eq!(rt; names.next(), Some(b"bc".as_slice()));
+    assert!(rt; names.is_empty());
+    assert_eq!(rt; names.rest(), b"/".as_slice());
     Ok(())
 }
