@@ -1,15 +1,20 @@
 -- Bytes of a node that are copied leaf by leaf.
-use Rattle.std.proofs.Common.{◌≡◌, ℕ, ◌+◌, ◌-◌, ◌*◌, ◌/◌, ◌%◌, ◌<◌, ◌≤◌, min, List, ◌++◌, length, take, drop, refl, sym, ◌∙◌, ap, arith, inl, inr}
+use Rattle.std.proofs.Common.{◌≡◌, ℕ, ◌+◌, ◌-◌, ◌*◌, ◌/◌, ◌%◌, ◌<◌, ◌≤◌, min, List, ◌++◌, length, take, drop, refl, sym, ◌∙◌, ap, arith, inl, inr, length-take, length-drop}
 use Rattle.std.specs.Prelude.{slice_index, slice_range, replicate}
-use Rattle.std.proofs.lemmas.List.{get_or-take, get_or-drop, length-append, length-take-le}
+use Rattle.std.proofs.lemmas.List.{ext_get_or, get_or-take, get_or-drop, length-append, length-take-le}
+use Rattle.std.proofs.lemmas.List.FromFn.{get_or-map-range_with_len, length-map-range_with_len}
 use Rattle.std.proofs.lemmas.Slice.{drop-append-drop}
 use Rattle.std.proofs.lemmas.Bool.{cases_lt}
 use Rattle.std.proofs.lemmas.Nat.{div-mul-add, mod-mul-add}
 use Rattle.qx_bytes.proofs.Puts.{byte_put_apart, byte_put_within, part_put}
 use Rattle.qx_geom.specs.declared.root.Root.{Root}
 use Rattle.qx_nodes.specs.BlockMap.{BlockMap}
-use Rattle.qx_nodes.specs.Content.{byte_of, bytes_at_leaf, leaf_bytes}
+use Rattle.qx_nodes.specs.Content.{byte_of, bytes_at_leaf, content_of, leaf_bytes}
 use Rattle.qx_nodes.specs.Leaves.{Hole, leaf_of}
+use Rattle.qx_nodes.specs.NodeContents.{bytes_in, node_content}
+use Rattle.qx_fields.specs.declared.order.Order.{Order}
+use Rattle.qx_blocks.specs.BlockState.{BlockState}
+use Rattle.qx_ptree.specs.Trees.{block_map}
 use Rattle.qx_file.proofs.PartBytes.{part_of_fill}
 
 -- a byte of a range
@@ -59,3 +64,24 @@ rest_stays into part from piece count long within room =
 pub hole_part : (m : BlockMap) (node : Root) (i place n : ℕ) → place + n ≤ m.size → Hole ≡ leaf_of m node i → replicate n 0 ≡ slice_range (leaf_bytes m node i) place (place + n)
 hole_part m node i place n within hole =
     part_of_fill m.size place n 0 within ∙ ap (λ x. slice_range (bytes_at_leaf m x) place (place + n)) hole
+
+-- bytes that are copied, as a list
+pub read_part : (order : Order) (m : BlockState) (node : Root) (at n : ℕ) (into : List ℕ) → n ≡ min (length into) (node.size - at) → ((k : ℕ) → k < n → slice_index into k ≡ byte_of (block_map order m) node (at + k))
+    → take n into ≡ take n (drop at (bytes_in m.holdings.size (node_content (block_map order m) node)))
+read_part order m node at n into is bytes = ext_get_or 0 (take n into) (take n (drop at content)) (long ∙ sym long_there) same
+  where
+    content : List ℕ
+    content = content_of (block_map order m) node
+
+    long : length (take n into) ≡ n
+    long = (let e : length (take n into) ≡ n = omega (arith, is, length-take n into) in e)
+
+    long_there : length (take n (drop at content)) ≡ n
+    long_there = (let e : length (take n (drop at content)) ≡ n = omega (arith, is, length-take n (drop at content), length-drop at content, length-map-range_with_len (λ k. byte_of (block_map order m) node k) 0 node.size) in e)
+
+    same : (k : ℕ) → k < length (take n into) → slice_index (take n into) k ≡ slice_index (take n (drop at content)) k
+    same k below =
+        let low : k < n = omega (arith, below, long) in
+        get_or-take n into k 0 low
+        ∙ bytes k low
+        ∙ sym (get_or-take n (drop at content) k 0 low ∙ get_or-drop at content k 0 ∙ get_or-map-range_with_len (λ k. byte_of (block_map order m) node k) 0 node.size (at + k) (at + k) 0 (omega (arith, is, low)) (omega arith))

@@ -1,5 +1,5 @@
 //! Laws of planned changes, and of what is put.
-ghost use Rattle.std.specs.Prelude.{◌≡◌, ℕ, ◌+◌, ◌-◌, ◌*◌, ◌/◌, ◌%◌, ◌<◌, ◌≤◌, ◌⊎◌, ◌↔◌, Bool, true, false, List, None, Some, length, replicate, slice_index, if◌then◌else◌, IsTrue};
+ghost use Rattle.std.specs.Prelude.{◌≡◌, ℕ, ◌+◌, ◌-◌, ◌*◌, ◌/◌, ◌%◌, ◌<◌, ◌≤◌, ◌⊎◌, ◌↔◌, Bool, true, false, List, None, Some, drop, length, min, replicate, take, slice_index, if◌then◌else◌, IsTrue};
 ghost use Rattle.qx_bytes.specs.Ranges.{put_at};
 ghost use Rattle.qx_outside.specs.Trail.{resized};
 ghost use Rattle.qx_fields.specs.declared.order.Order.{Order};
@@ -9,6 +9,7 @@ ghost use Rattle.qx_geom.specs.Lists.{is_in};
 ghost use Rattle.qx_geom.specs.Pointer.{ceil_div, reach};
 ghost use Rattle.qx_geom.specs.Room.{greatest_end};
 ghost use Rattle.qx_nodes.specs.Content.{byte_of, content_of, leaf_bytes};
+ghost use Rattle.qx_nodes.specs.NodeContents.{bytes_in, node_content};
 ghost use Rattle.qx_nodes.specs.Visits.{present_of, visits_of};
 ghost use Rattle.qx_blocks.specs.BlockState.{BlockState, IsBlockSize, IsConsistent};
 ghost use Rattle.qx_ptree.specs.declared.change.Change.{Change};
@@ -144,4 +145,10 @@ pub fn a_file_without_a_tail()
     // And while the file's blocks stay.
     ensures kept { (order : Order) (m n : BlockState) (node : Root) → IsConsistent n → KeepsNode order m n node → IsToldNode order m node → HasNoTail order m node
         → HasNoTail order n node }
+{}
+
+/// What `read` fills in is that part of the bytes of the node's content.
+pub fn what_is_read_is_the_content()
+    ensures { (order : Order) (m : BlockState) (node : Root) (at n : ℕ) (into : List ℕ) → n ≡ min (length into) (node.size - at) → ((k : ℕ) → k < n → slice_index into k ≡ byte_of (block_map order m) node (at + k))
+        → take n into ≡ take n (drop at (bytes_in m.holdings.size (node_content (block_map order m) node))) }
 {}

@@ -15,6 +15,6 @@ pub use laws::{
     a_file_ends_in_its_last_leaf, a_file_without_a_tail, a_planned_size_writes_the_cut_leaf,
     a_planned_write_writes_its_leaves, bytes_in_written_leaves_can_be_put,
     the_content_after_a_change, what_is_put_is_the_nodes, what_is_put_leaves_others,
-    what_is_put_leaves_the_pointers,
+    what_is_put_leaves_the_pointers, what_is_read_is_the_content,
 };
 pub use plans::{TooBig, plan_size, plan_write};
