@@ -8,10 +8,12 @@
 
 mod block;
 mod laws;
+mod listing;
 mod places;
 
 pub use block::{Found, clear, find, first_unused, put, rows};
 pub use laws::what_is_found;
+pub use listing::{Entries, Entry, EntryName};
 pub use places::RowPlaces;
 
 #[cfg(test)]

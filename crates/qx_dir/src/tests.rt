@@ -1,7 +1,7 @@
 //! Blocks with rows of every kind, in both orders of bytes.
 ghost use Rattle.std.specs.Prelude.{◌≡◌, ◌%◌, ◌<◌, ◌≤◌, length};
 
-use crate::{Found, clear, find, first_unused, put, rows};
+use crate::{Entries, Entry, EntryName, Found, clear, find, first_unused, put, rows};
 use qx_fields::Order;
 use std::test::Fail;
 
@@ -182,4 +182,40 @@ fn a_full_block_has_no_unused_record(rt: HostRuntime) -> Result<(), Fail> {
         );
     }
     Ok(())
+}
+
+#[test]
+fn entries_are_rows_but_dots_and_what_means_nothing(rt: HostRuntime) {
+    let cases: [Option<(usize, u32, EntryName)>; 6] = [
+        Some((2, 5, EntryName::Short(b"a"))),
+        Some((3, 6, EntryName::Long(7))),
+        Some((4, 7, EntryName::Long(8))),
+        Some((5, 8, EntryName::Short(b"a"))),
+        Some((7, 9, EntryName::Short(b"abcdefghijklmnopqrstuvwxyza"))),
+        None,
+    ];
+    for (order, block) in [(Order::Little, LITTLE), (Order::Big, BIG)] {
+        let mut entries = Entries::new(&block, order);
+        for want in cases {
+            let got = entries
+                .next()
+                .map(|entry| (entry.place, entry.inode, entry.name));
+            assert_eq!(rt; got, want);
+        }
+    }
+}
+
+#[test]
+fn a_dotted_name_is_listed_and_dots_are_not(rt: HostRuntime) {
+    let mut block = [0; 128];
+    put(&mut block, Order::Big, 0, 3, b".", 0);
+    put(&mut block, Order::Big, 1, 1, b"..", 0);
+    put(&mut block, Order::Big, 2, 4, b"...", 0);
+    put(&mut block, Order::Big, 3, 5, b".a", 0);
+    let mut entries = Entries::new(&block, Order::Big);
+    for (place, inode, name) in [(2, 4, b"...".as_slice()), (3, 5, b".a".as_slice())] {
+        let name = EntryName::Short(name);
+        assert_eq!(rt; entries.next(), Some(Entry { place, inode, name }));
+    }
+    assert_eq!(rt; entries.next(), None);
 }
