@@ -39,7 +39,7 @@ are_zero-replicate zero = refl
 are_zero-replicate (suc n) = are_zero-replicate n
 
 -- a record of zeros is unused
-raw_zeros : (order : Order) (c : ℕ) → raw_in order (zeros c) ≡ Unused
+pub raw_zeros : (order : Order) (c : ℕ) → raw_in order (zeros c) ≡ Unused
 unfolding raw_in
 raw_zeros order c = either _ _ _ (eq-eqb (field order 4 (zeros c) 0) 0 (field_zeros order c 0))
   where

@@ -1,0 +1,4 @@
+mod PartRecords
+mod FoundNames
+mod LeafRecords
+mod DirectoryRecords
