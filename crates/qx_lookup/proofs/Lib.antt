@@ -2,3 +2,6 @@ mod PartRecords
 mod FoundNames
 mod LeafRecords
 mod DirectoryRecords
+mod ToldDirectories
+mod NamedRows
+mod ReadableNodes

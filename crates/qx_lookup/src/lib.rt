@@ -1,12 +1,14 @@
-//! Names in directories over blocks: which row has a name.
+//! Names in directories over blocks: which row has a name, and which inode it leads to.
 //!
-//! Stands on `qx_ptree` for present leaves, on `qx_dir` for the rows of a block, on `qx_long` for long names and on `qx_view` for what a record says; path walks stand on it.
-//! Its contract: `find_row` answers the first row with a name that `specs/Rows.antt` says, whatever the directory's records are.
+//! Stands on `qx_working` for the working tree, on `qx_ptree` for present leaves, on `qx_dir` for the rows of a block and on `qx_long` for long names; path walks and operations on names stand on it.
+//! Its contract: `lookup` and `row_named` answer what the definitions of `qx_model` say of each tree for which state and blocks stand.
 //! It keeps no state and takes no memory: names are compared where they stand.
 //! It reads present leaves alone, a hole's records being unused.
 #![tactic(auto)]
 
+mod named;
 mod rows;
 mod spans;
 
+pub use named::{live_inode, lookup, row_named};
 pub use rows::{FoundRow, find_row};
