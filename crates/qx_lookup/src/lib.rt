@@ -12,3 +12,6 @@ mod spans;
 
 pub use named::{live_inode, lookup, row_named};
 pub use rows::{FoundRow, find_row};
+
+#[cfg(test)]
+mod tests;
