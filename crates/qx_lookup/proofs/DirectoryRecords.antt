@@ -1,6 +1,6 @@
 -- The records of a directory by its leaves: those of a present leaf are its block's, and those in a hole say nothing.
 use Rattle.std.proofs.Common.{◌≡◌, ℕ, ◌+◌, ◌-◌, ◌*◌, ◌/◌, ◌%◌, ◌<◌, ◌≤◌, List, inl, inr, refl, sym, ◌∙◌, ap, subst, arith}
-use Rattle.std.specs.Prelude.{Contains, Option, Some, None, is_some, true, false, slice_range}
+use Rattle.std.specs.Prelude.{Bool, Contains, Option, Some, None, is_some, true, false, slice_range}
 use Rattle.std.proofs.lemmas.Bool.{cases_lt}
 use Rattle.std.proofs.lemmas.Nat.{div-add-mod', div-mul-add, le-div}
 use Rattle.std.proofs.Math.Nat.{div-lt_iff_lt-mul}
@@ -20,6 +20,7 @@ use Rattle.qx_nodes.proofs.ContentLocality.{lies_below}
 use Rattle.qx_nodes.proofs.MetLeaves.{node_leaf_found}
 use Rattle.qx_nodes.proofs.ZeroBytes.{slice_zeros}
 use Rattle.qx_records.specs.NameRecord.{raw_in}
+use Rattle.qx_model.specs.Tree.{Slot, Unused}
 use Rattle.qx_view.specs.Entries.{slot_by}
 use Rattle.qx_view.proofs.HoleRecords.{raw_zeros}
 use Rattle.qx_blocks.specs.BlockState.{BlockState, IsBlockSize, IsConsistent}
@@ -82,15 +83,14 @@ leaf_begins size bytes index sized below =
 
 -- ---- holes
 
--- a record that lies in no present leaf is no row
-hole_has_none : (m : BlockMap) (longfile node : Root) (name : List ℕ) (k : ℕ) → Reaches m node → k < node.size / 32 → is_in (present_of m node) (k * 32 / m.size) ≡ false
-    → is_row name (slot_in m longfile node k) ≡ false
-hole_has_none m longfile node name k r low out =
+-- a record that lies in no present leaf is unused
+pub hole_unused : (m : BlockMap) (longfile node : Root) (k : ℕ) → Reaches m node → k < node.size / 32 → is_in (present_of m node) (k * 32 / m.size) ≡ false → slot_in m longfile node k ≡ Some Unused
+hole_unused m longfile node k r low out =
     let z = slice_zeros m.size (k * 32 % m.size) (k * 32 % m.size + 32) in
-    ap (λ bs. is_row name (slot_by (long_name m longfile) (raw_in m.order (slice_range bs (k * 32 % m.size) (k * 32 % m.size + 32)))))
+    ap (λ bs. slot_by (long_name m longfile) (raw_in m.order (slice_range bs (k * 32 % m.size) (k * 32 % m.size + 32))))
     (absent_bytes m node (k * 32 / m.size) (lies_below m node (k * 32) r (omega (arith, low))) (λ there. true_or_false (is_in (present_of m node) (k * 32 / m.size)) (in_Contains (present_of m node) (k * 32 / m.size) there) out))
-    ∙ ap (λ bs. is_row name (slot_by (long_name m longfile) (raw_in m.order bs))) z.1
-    ∙ ap (λ raw. is_row name (slot_by (long_name m longfile) raw)) (raw_zeros m.order z.0)
+    ∙ ap (λ bs. slot_by (long_name m longfile) (raw_in m.order bs)) z.1
+    ∙ ap (slot_by (long_name m longfile)) (raw_zeros m.order z.0)
 
 -- a node's levels reach its size
 pub reaches : (order : Order) (m : BlockState) (node : Root) → IsBlockSize m.holdings.size → HasLevels m.holdings.size node → Reaches (block_map order m) node
@@ -102,36 +102,35 @@ reaches order m node sized levels = record {
 
 -- ---- leaf after leaf
 
--- no record below the size is a row with the name that lies before a leaf
-abbrev pub NoneBefore : BlockMap → Root → Root → List ℕ → ℕ → Type 0
-NoneBefore m longfile node name leaf = (k : ℕ) → k < leaf * (m.size / 32) → k < node.size / 32 → is_row name (slot_in m longfile node k) ≡ false
+-- no record below the size that lies before a leaf passes a test
+abbrev pub NoneBefore : BlockMap → Root → Root → (Option Slot → Bool) → ℕ → Type 0
+NoneBefore m longfile node test leaf = (k : ℕ) → k < leaf * (m.size / 32) → k < node.size / 32 → test (slot_in m longfile node k) ≡ false
 
--- behind the last present leaf there is none
-pub none_behind : (m : BlockMap) (longfile node : Root) (name : List ℕ) (from : ℕ) → IsBlockSize m.size → Reaches m node → NoneBefore m longfile node name from → IsNextPresent m node from None
-    → IsFirstRow (slot_in m longfile node) name 0 (node.size / 32) None
-none_behind m longfile node name from sized r none absent k least low = elim (cases_lt k (from * (m.size / 32))) [
-  | inl before ↦ none k before low
-  | inr later ↦ hole_has_none m longfile node name k r low (absent (k * 32 / m.size) (leaf_least m.size from k sized later))
-]
+module _ (m : BlockMap) (longfile node : Root) (test : Option Slot → Bool) (fails : test (Some Unused) ≡ false) (from : ℕ) (sized : IsBlockSize m.size) (r : Reaches m node) (none : NoneBefore m longfile node test from) where
+  -- behind the last present leaf none does, where unused ones don't
+  pub none_behind : IsNextPresent m node from None → (k : ℕ) → k < node.size / 32 → test (slot_in m longfile node k) ≡ false
+  none_behind absent k low = elim (cases_lt k (from * (m.size / 32))) [
+    | inl before ↦ none k before low
+    | inr later ↦ ap test (hole_unused m longfile node k r low (absent (k * 32 / m.size) (leaf_least m.size from k sized later))) ∙ fails
+  ]
 
--- nor before the next present leaf
-pub none_up_to : (m : BlockMap) (longfile node : Root) (name : List ℕ) (from : ℕ) (leaf : Leaf) → IsBlockSize m.size → Reaches m node → NoneBefore m longfile node name from → IsNextPresent m node from (Some leaf)
-    → NoneBefore m longfile node name leaf.index
-none_up_to m longfile node name from leaf sized r none next k early low = elim (cases_lt k (from * (m.size / 32))) [
-  | inl before ↦ none k before low
-  | inr later ↦ hole_has_none m longfile node name k r low (next.1 (k * 32 / m.size) (leaf_least m.size from k sized later) (leaf_most m.size leaf.index k sized early))
-]
+  -- nor before the next present leaf
+  pub none_up_to : (leaf : Leaf) → IsNextPresent m node from (Some leaf) → NoneBefore m longfile node test leaf.index
+  none_up_to leaf next k early low = elim (cases_lt k (from * (m.size / 32))) [
+    | inl before ↦ none k before low
+    | inr later ↦ ap test (hole_unused m longfile node k r low (next.1 (k * 32 / m.size) (leaf_least m.size from k sized later) (leaf_most m.size leaf.index k sized early))) ∙ fails
+  ]
 
--- nor in it, where none was found there
-none_in_leaf : (m : BlockMap) (longfile node : Root) (name : List ℕ) (index : ℕ) → NoneBefore m longfile node name index
-    → IsFirstRow (slot_in m longfile node) name (index * (m.size / 32)) (records_end m.size node.size index) None → NoneBefore m longfile node name (index + 1)
-none_in_leaf m longfile node name index none found k early low = elim (cases_lt k (index * (m.size / 32))) [
+-- nor in it, where none in it does
+pub none_in_leaf : (m : BlockMap) (longfile node : Root) (test : Option Slot → Bool) (index : ℕ) → NoneBefore m longfile node test index
+    → ((k : ℕ) → index * (m.size / 32) ≤ k → k < records_end m.size node.size index → test (slot_in m longfile node k) ≡ false) → NoneBefore m longfile node test (index + 1)
+none_in_leaf m longfile node test index none found k early low = elim (cases_lt k (index * (m.size / 32))) [
   | inl before ↦ none k before low
   | inr later ↦ found k later (omega (arith, early, low))
 ]
 
 -- the first in it is the first
-first_in_leaf : (m : BlockMap) (longfile node : Root) (name : List ℕ) (index : ℕ) (row : FoundRow) → NoneBefore m longfile node name index
+first_in_leaf : (m : BlockMap) (longfile node : Root) (name : List ℕ) (index : ℕ) (row : FoundRow) → NoneBefore m longfile node (is_row name) index
     → IsFirstRow (slot_in m longfile node) name (index * (m.size / 32)) (records_end m.size node.size index) (Some row) → IsFirstRow (slot_in m longfile node) name 0 (node.size / 32) (Some row)
 first_in_leaf m longfile node name index row none found = (
   omega (arith, found.0),
@@ -143,18 +142,27 @@ first_in_leaf m longfile node name index row none found = (
 )
 
 -- what is found in the next present leaf is the first row
-pub found_in_leaf : (m : BlockMap) (longfile node : Root) (name : List ℕ) (index : ℕ) (found : Option FoundRow) → is_some found ≡ true → NoneBefore m longfile node name index
+pub found_in_leaf : (m : BlockMap) (longfile node : Root) (name : List ℕ) (index : ℕ) (found : Option FoundRow) → is_some found ≡ true → NoneBefore m longfile node (is_row name) index
     → IsFirstRow (slot_in m longfile node) name (index * (m.size / 32)) (records_end m.size node.size index) found → IsFirstRow (slot_in m longfile node) name 0 (node.size / 32) found
 found_in_leaf m longfile node name index None is none found = absurd (cc)
 found_in_leaf m longfile node name index (Some row) is none found = first_in_leaf m longfile node name index row none found
 
 -- where nothing is, none lies before the leaf behind it
-pub not_in_leaf : (m : BlockMap) (longfile node : Root) (name : List ℕ) (index : ℕ) (found : Option FoundRow) → is_some found ≡ false → NoneBefore m longfile node name index
-    → IsFirstRow (slot_in m longfile node) name (index * (m.size / 32)) (records_end m.size node.size index) found → NoneBefore m longfile node name (index + 1)
-not_in_leaf m longfile node name index None is none found = none_in_leaf m longfile node name index none found
+pub not_in_leaf : (m : BlockMap) (longfile node : Root) (name : List ℕ) (index : ℕ) (found : Option FoundRow) → is_some found ≡ false → NoneBefore m longfile node (is_row name) index
+    → IsFirstRow (slot_in m longfile node) name (index * (m.size / 32)) (records_end m.size node.size index) found → NoneBefore m longfile node (is_row name) (index + 1)
+not_in_leaf m longfile node name index None is none found = none_in_leaf m longfile node (is_row name) index none found
 not_in_leaf m longfile node name index (Some row) is none found = absurd (cc)
 
 -- ---- one leaf
+
+-- a record of a present leaf is its block's
+pub slot_of_present : (order : Order) (m : BlockState) (longfile node : Root) (index block k : ℕ) → IsConsistent m → IsWorking order m node
+    → Contains (visits_of (block_map order m) node) (record { level = 0; index = index; block = block }) → k < m.holdings.size / 32
+    → slot_in (block_map order m) longfile node (index * (m.holdings.size / 32) + k) ≡ slot_in_block order (long_name (block_map order m) longfile) (m.bytes block) k
+slot_of_present order m longfile node index block k s works met low =
+    let t : BlockMap = block_map order m in
+    let bytes : leaf_bytes t node index ≡ m.bytes block = ap (bytes_at_leaf t) (node_leaf_found t node (record { level = 0; index = index; block = block }) (words_positive m.holdings.size s.size) met refl (works_below m block s (works (record { level = 0; index = index; block = block }) met))) in
+    slot_of_leaf t longfile node index k s.size low ∙ ap (λ bs. slot_in_block order (long_name t longfile) bs k) bytes
 
 -- a row of a block as one of the directory
 abbrev pub moved : ℕ → Option FoundRow → Option FoundRow
@@ -174,11 +182,8 @@ row_of_leaf order m longfile node index block count name found s works met few r
     many : ℕ
     many = m.holdings.size / 32
 
-    bytes : leaf_bytes t node index ≡ m.bytes block
-    bytes = ap (bytes_at_leaf t) (node_leaf_found t node (record { level = 0; index = index; block = block }) (words_positive m.holdings.size s.size) met refl (works_below m block s (works (record { level = 0; index = index; block = block }) met)))
-
     slot : (k : ℕ) → k < count → slot_in t longfile node (index * many + k) ≡ slot_in_block order (long_name t longfile) (m.bytes block) k
-    slot k low = slot_of_leaf t longfile node index k s.size (omega (arith, low, few)) ∙ ap (λ bs. slot_in_block order (long_name t longfile) bs k) bytes
+    slot k low = slot_of_present order m longfile node index block k s works met (omega (arith, low, few))
 
     none : (last : ℕ) → last ≤ count → NoneHas (slot_in_block order (long_name t longfile) (m.bytes block)) name 0 last → NoneHas (slot_in t longfile node) name (index * many) (index * many + last)
     none last most h k least low =

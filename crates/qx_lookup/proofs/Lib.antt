@@ -4,4 +4,5 @@ mod LeafRecords
 mod DirectoryRecords
 mod ToldDirectories
 mod NamedRows
+mod BareRecords
 mod ReadableNodes

@@ -63,8 +63,8 @@ pub fn live_inode(state: &Working, n: u32) -> Option<Inode>
     state.table.get(n)
 }
 
-// The node of a directory.
-fn directory(state: &Working, dir: u32) -> Option<Root>
+/// The node of a directory.
+pub fn directory(state: &Working, dir: u32) -> Option<Root>
     ensures { result ≡ directory_in state.now.table.inodes dir }
 {
     let inode = live_inode(state, dir)?;

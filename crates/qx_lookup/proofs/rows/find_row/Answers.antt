@@ -1,4 +1,4 @@
-use Rattle.std.proofs.Common.{rules, ◌≡◌, ◌<◌, ◌^◌, true, false, IsTrue, arith, subst, sym}
+use Rattle.std.proofs.Common.{refl, rules, ◌≡◌, ◌<◌, ◌^◌, true, false, IsTrue, arith, subst, sym}
 use Rattle.std.specs.Prelude.{IfSome, None, Some, is_some}
 use Rattle.qx_geom.specs.Pointer.{ceil_div}
 use Rattle.qx_nodes.specs.BlockMap.{BlockMap}
@@ -7,6 +7,7 @@ use Rattle.qx_blocks.specs.Calls.{Keeps}
 use Rattle.qx_ptree.specs.declared.present.Leaf.{Leaf}
 use Rattle.qx_ptree.specs.Trees.{block_map}
 use Rattle.qx_ptree.proofs.KeptPlans.{kept_again, told_before}
+use Rattle.qx_lookup.specs.Rows.{is_row}
 use Rattle.qx_lookup.proofs.DirectoryRecords.{NoneBefore, found_in_leaf, none_behind, none_up_to, not_in_leaf, reaches, seen_next, seen_row}
 use Rattle.qx_lookup.proofs.LeafRecords.{leaf_few}
 use Rattle.qx_lookup.proofs.rows.find_row.Goals as goal
@@ -31,8 +32,8 @@ returns-then-is_some-clause-row g c told =
     let both : Keeps first read = kept_again first mid read c.loop-leaf.invariant.keeps c.in_ok-leaf.ensures.reads.keeps in
     let t : BlockMap = block_map c.args.order first in
     let some : is_some c.in_ok-found.found ≡ true = search rules in
-    let before : NoneBefore t c.args.longfile.now c.args.node.now c.args.name.now c.in-Some.leaf.index = none_up_to t c.args.longfile.now c.args.node.now c.args.name.now c.loop-leaf.from c.in-Some.leaf c.size-size.ensures.consistent.size
-    (reaches c.args.order first c.args.node.now c.size-size.ensures.consistent.size c.requires.levels) (c.loop-leaf.invariant.none told_mid)
+    let before : NoneBefore t c.args.longfile.now c.args.node.now (is_row c.args.name.now) c.in-Some.leaf.index = none_up_to t c.args.longfile.now c.args.node.now (is_row c.args.name.now) refl c.loop-leaf.from c.size-size.ensures.consistent.size
+    (reaches c.args.order first c.args.node.now c.size-size.ensures.consistent.size c.requires.levels) (c.loop-leaf.invariant.none told_mid) c.in-Some.leaf
     (seen_next c.args.order first mid c.args.node.now c.loop-leaf.from c.in_ok-leaf.field-0 (Some c.in-Some.leaf) (c.loop-leaf.invariant.keeps.told told_mid) c.in-Some.is (c.in_ok-leaf.ensures.found told_read)) in
     found_in_leaf t c.args.longfile.now c.args.node.now c.args.name.now c.in-Some.leaf.index c.in_ok-found.found some before
     (seen_row c.args.order first read c.args.longfile.now c.args.node.now c.args.name.now c.in-Some.leaf.index c.in_ok-found.found (both.told told_read) (c.in_ok-found.ensures.row told))
@@ -59,8 +60,8 @@ loop-leaf-preserved g c =
       none = λ told.
           let told_read : IsTrue read.tells = told_before read new c.in_ok-found.ensures.reads.keeps told in
           let told_mid : IsTrue mid.tells = told_before mid read c.in_ok-leaf.ensures.reads.keeps told_read in
-          let before : NoneBefore t c.args.longfile.now c.args.node.now c.args.name.now c.in-Some.leaf.index = none_up_to t c.args.longfile.now c.args.node.now c.args.name.now c.loop-leaf.from c.in-Some.leaf c.size-size.ensures.consistent.size
-          (reaches c.args.order first c.args.node.now c.size-size.ensures.consistent.size c.requires.levels) (c.loop-leaf.invariant.none told_mid)
+          let before : NoneBefore t c.args.longfile.now c.args.node.now (is_row c.args.name.now) c.in-Some.leaf.index = none_up_to t c.args.longfile.now c.args.node.now (is_row c.args.name.now) refl c.loop-leaf.from c.size-size.ensures.consistent.size
+          (reaches c.args.order first c.args.node.now c.size-size.ensures.consistent.size c.requires.levels) (c.loop-leaf.invariant.none told_mid) c.in-Some.leaf
           (seen_next c.args.order first mid c.args.node.now c.loop-leaf.from c.in_ok-leaf.field-0 (Some c.in-Some.leaf) (c.loop-leaf.invariant.keeps.told told_mid) c.in-Some.is (c.in_ok-leaf.ensures.found told_read)) in
           not_in_leaf t c.args.longfile.now c.args.node.now c.args.name.now c.in-Some.leaf.index c.in_ok-found.found no before
           (seen_row c.args.order first read c.args.longfile.now c.args.node.now c.args.name.now c.in-Some.leaf.index c.in_ok-found.found (both.told told_read) (c.in_ok-found.ensures.row told));
@@ -70,11 +71,11 @@ loop-leaf-preserved g c =
     }
 
 pub returns-clause-row : goal.returns-clause-row
-returns-clause-row g c told =
+returns-clause-row g c told k least low =
     let first : BlockState = g.B.Blocks.state c.args.blocks.now in
     let mid : BlockState = g.B.Blocks.state c.loop-leaf.blocks in
     let read : BlockState = g.B.Blocks.state c.next_present.new.blocks in
     let told_mid : IsTrue mid.tells = told_before mid read c.in_ok-leaf.ensures.reads.keeps told in
-    none_behind (block_map c.args.order first) c.args.longfile.now c.args.node.now c.args.name.now c.loop-leaf.from c.size-size.ensures.consistent.size
+    none_behind (block_map c.args.order first) c.args.longfile.now c.args.node.now (is_row c.args.name.now) refl c.loop-leaf.from c.size-size.ensures.consistent.size
     (reaches c.args.order first c.args.node.now c.size-size.ensures.consistent.size c.requires.levels) (c.loop-leaf.invariant.none told_mid)
-    (seen_next c.args.order first mid c.args.node.now c.loop-leaf.from c.in_ok-leaf.field-0 None (c.loop-leaf.invariant.keeps.told told_mid) c.in_default.is (c.in_ok-leaf.ensures.found told))
+    (seen_next c.args.order first mid c.args.node.now c.loop-leaf.from c.in_ok-leaf.field-0 None (c.loop-leaf.invariant.keeps.told told_mid) c.in_default.is (c.in_ok-leaf.ensures.found told)) k low

@@ -2,6 +2,7 @@ use Rattle.std.proofs.Common.{◌≡◌, ◌-◌, IsTrue}
 use Rattle.qx_geom.specs.Pointer.{ceil_div}
 use Rattle.qx_blocks.specs.Calls.{Keeps}
 use Rattle.qx_ptree.specs.Trees.{block_map}
+use Rattle.qx_lookup.specs.Rows.{is_row}
 use Rattle.qx_lookup.proofs.DirectoryRecords.{NoneBefore}
 use Rattle.qx_lookup.proofs.rows.find_row.Given as goal
 
@@ -10,7 +11,7 @@ abbrev pub invariant-loop-leaf : goal.invariant-loop-leaf
 invariant-loop-leaf g l =
     let m = g.B.Blocks.state l.fn.blocks in
     record {
-      none : IsTrue (g.B.Blocks.state l.blocks).tells → NoneBefore (block_map l.order m) l.longfile l.node l.name l.from;
+      none : IsTrue (g.B.Blocks.state l.blocks).tells → NoneBefore (block_map l.order m) l.longfile l.node (is_row l.name) l.from;
       keeps : Keeps m (g.B.Blocks.state l.blocks);
       aside : (g.B.Blocks.beside l.blocks).aside ≡ (g.B.Blocks.beside l.fn.blocks).aside;
       faults : (g.B.Blocks.beside l.blocks).faults ≡ (g.B.Blocks.beside l.fn.blocks).faults;
