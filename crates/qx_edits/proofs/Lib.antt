@@ -1,0 +1,9 @@
+pub mod ListedElements
+pub mod DirectoryEntries
+pub mod RowTrees
+pub mod RecordSlots
+pub mod ShownRows
+pub mod NamedLinks
+pub mod LinkedRows
+pub mod NamedContents
+pub mod ShownNamedRows

@@ -1,0 +1,4 @@
+pub mod SetInodes
+pub mod RecordEdits
+pub mod NameEdits
+pub mod LinkEdits

@@ -1,0 +1,11 @@
+//! Edits: what inodes and the contents of nodes show of a tree after each edit that an operation makes, and what links are then.
+//!
+//! Stands on `qx_copies` and `qx_working` for what is shown, on `qx_batch` for what a change and a put leave of a node, and on `qx_model` for the edits; operations stand on it.
+//! Its contract: the laws below, each over any inodes and contents that show a tree. What an operation does to nodes, inodes and links it shows edit by edit.
+//! It says nothing of blocks, pointers or rooted trees.
+//! It keeps no state and takes no memory; nothing in it runs.
+#![tactic(auto)]
+
+mod row_laws;
+
+pub use row_laws::{a_parent_is_moved, a_row_is_added, a_row_is_cleared, a_row_is_pointed};
