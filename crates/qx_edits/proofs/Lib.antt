@@ -7,3 +7,4 @@ pub mod NamedLinks
 pub mod LinkedRows
 pub mod NamedContents
 pub mod ShownNamedRows
+pub mod ShownInodes

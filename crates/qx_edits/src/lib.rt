@@ -6,6 +6,10 @@
 //! It keeps no state and takes no memory; nothing in it runs.
 #![tactic(auto)]
 
+mod inode_laws;
 mod row_laws;
 
+pub use inode_laws::{
+    a_file_is_rewritten, an_inode_comes, an_inode_loses_a_row, attributes_change,
+};
 pub use row_laws::{a_parent_is_moved, a_row_is_added, a_row_is_cleared, a_row_is_pointed};
