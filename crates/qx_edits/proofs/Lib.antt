@@ -8,3 +8,6 @@ pub mod LinkedRows
 pub mod NamedContents
 pub mod ShownNamedRows
 pub mod ShownInodes
+pub mod PutLeaves
+pub mod PutRecords
+pub mod PutNames

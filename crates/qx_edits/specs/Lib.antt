@@ -2,3 +2,4 @@ pub mod SetInodes
 pub mod RecordEdits
 pub mod NameEdits
 pub mod LinkEdits
+pub mod PutContents
