@@ -11,3 +11,5 @@ pub mod ShownInodes
 pub mod PutLeaves
 pub mod PutRecords
 pub mod PutNames
+pub mod PutFiles
+pub mod ShownFiles

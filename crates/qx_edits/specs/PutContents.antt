@@ -1,5 +1,5 @@
 -- Contents of nodes over blocks, which were changed and into which bytes were put.
-use Rattle.std.specs.Prelude.{◌≡◌, ℕ, ◌<◌, true, false, List, length, replicate}
+use Rattle.std.specs.Prelude.{◌≡◌, ℕ, ◌/◌, ◌%◌, ◌<◌, ◌≤◌, true, false, List, length, replicate, slice_index}
 use Rattle.qx_geom.specs.Lists.{IsAscending, is_in}
 use Rattle.qx_geom.specs.Pointer.{ceil_div}
 use Rattle.qx_nodes.specs.NodeContents.{IsSameContent, NodeContent}
@@ -17,3 +17,7 @@ pub record IsOverBlocks (blocksize : ℕ) (c : NodeContent) : Type 0 where
 -- a change was made in a content, and bytes were put from a place on
 abbrev pub IsPutInto : ℕ → Change → ℕ → List ℕ → NodeContent → NodeContent → Type 0
 IsPutInto blocksize c at bytes a b = IsSameContent blocksize (put_content blocksize at bytes (changed_content blocksize c a)) b
+
+-- a file's content has nothing but 0 past its end
+abbrev pub HasZerosBehind : ℕ → NodeContent → Type 0
+HasZerosBehind blocksize c = (k : ℕ) → c.size ≤ k → slice_index (c.leaves (k / blocksize)) (k % blocksize) ≡ 0

@@ -11,9 +11,10 @@ mod put_laws;
 mod row_laws;
 
 pub use inode_laws::{
-    a_file_is_rewritten, an_inode_comes, an_inode_loses_a_row, attributes_change,
+    a_file_is_rewritten, a_file_is_written, an_inode_comes, an_inode_loses_a_row, attributes_change,
 };
 pub use put_laws::{
     a_change_and_a_put_are_one, a_content_lies_over_blocks, a_long_name_is_put, a_record_is_put,
+    bytes_are_put_into_a_file,
 };
 pub use row_laws::{a_parent_is_moved, a_row_is_added, a_row_is_cleared, a_row_is_pointed};

@@ -5,17 +5,19 @@ ghost use Rattle.qx_fields.specs.Number.{digits};
 ghost use Rattle.qx_fields.specs.declared.order.Order.{Order};
 ghost use Rattle.qx_geom.specs.declared.root.Root.{Root};
 ghost use Rattle.qx_geom.specs.Lists.{is_in};
-ghost use Rattle.qx_nodes.specs.NodeContents.{IsSameContent, NodeContent, node_content};
+ghost use Rattle.qx_nodes.specs.NodeContents.{IsSameContent, NodeContent, bytes_in, node_content};
 ghost use Rattle.qx_ptree.specs.declared.change.Change.{Change};
 ghost use Rattle.qx_ptree.specs.Fates.{leaves_after, written_by};
 ghost use Rattle.qx_ptree.specs.Trees.{IsToldNode, block_map};
 ghost use Rattle.qx_records.specs.NameRecord.{RawRecord, raw_in};
 ghost use Rattle.qx_batch.specs.Changes.{changed_content};
 ghost use Rattle.qx_batch.specs.PutNodes.{has_byte, put_content};
+ghost use Rattle.qx_bytes.specs.Ranges.{put_at};
+ghost use Rattle.qx_outside.specs.Trail.{resized};
 ghost use Rattle.qx_model.specs.Edits.{leaf_of_record};
 ghost use Rattle.qx_model.specs.Whole.{HoldsRecords};
 ghost use Rattle.qx_edits.specs.NameEdits.{AddsName, DropsName};
-ghost use Rattle.qx_edits.specs.PutContents.{IsOverBlocks, IsPutInto};
+ghost use Rattle.qx_edits.specs.PutContents.{HasZerosBehind, IsOverBlocks, IsPutInto};
 ghost use Rattle.qx_edits.specs.RecordEdits.{SetsRecord, size_with_record};
 
 /// A node's content is one over blocks, where bytes are told. It stays one through a change that writes leaves below its size, and while bytes are put into leaves that are present.
@@ -46,4 +48,12 @@ pub fn a_long_name_is_put()
         → IsPutInto blocksize c (k * blocksize) (digits order 2 (length name) ++ name) a b → AddsName order blocksize k name a b }
     ensures dropped { (order : Order) (blocksize k : ℕ) (c : Change) (a b : NodeContent) → 0 < blocksize → IsOverBlocks blocksize a → c.size ≡ a.size → written_by c ≡ [] → c.gone ≡ Some k
         → IsSameContent blocksize (changed_content blocksize c a) b → DropsName order blocksize k a b }
+{}
+
+/// A file into which bytes are put has them, and 0 where it had nothing; one of another size is cut or filled up, whatever is put behind its new end.
+pub fn bytes_are_put_into_a_file()
+    ensures written { (blocksize at : ℕ) (bytes : List ℕ) (c : Change) (a b : NodeContent) → 0 < blocksize → IsOverBlocks blocksize a → HasZerosBehind blocksize a → at + length bytes ≤ c.size → c.gone ≡ None
+        → IsPutInto blocksize c at bytes a b → bytes_in blocksize b ≡ put_at (resized (bytes_in blocksize a) c.size) at bytes }
+    ensures sized { (blocksize at : ℕ) (bytes : List ℕ) (c : Change) (a b : NodeContent) → 0 < blocksize → IsOverBlocks blocksize a → HasZerosBehind blocksize a → c.size ≤ at → c.gone ≡ None
+        → IsPutInto blocksize c at bytes a b → bytes_in blocksize b ≡ resized (bytes_in blocksize a) c.size }
 {}
