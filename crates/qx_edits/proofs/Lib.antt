@@ -13,3 +13,4 @@ pub mod PutRecords
 pub mod PutNames
 pub mod PutFiles
 pub mod ShownFiles
+pub mod NewEntries

@@ -29,7 +29,7 @@ use Rattle.qx_edits.specs.RecordEdits.{SetsRecord, record_of, size_with_record}
 use Rattle.qx_edits.proofs.PutLeaves.{changed_long, kept_leaf, put_beside, put_here}
 
 -- a record of zeros is unused
-raw_zeros : (order : Order) (c : ℕ) → raw_in order (replicate c 0) ≡ raws.Unused
+pub raw_zeros : (order : Order) (c : ℕ) → raw_in order (replicate c 0) ≡ raws.Unused
 unfolding raw_in
 raw_zeros order c = either _ _ _ (eq-eqb (field order 4 (replicate c 0) 0) 0 (field_zeros order c 0))
   where

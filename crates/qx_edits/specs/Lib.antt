@@ -3,3 +3,4 @@ pub mod RecordEdits
 pub mod NameEdits
 pub mod LinkEdits
 pub mod PutContents
+pub mod NewDirectories
