@@ -14,3 +14,4 @@ pub mod PutNames
 pub mod PutFiles
 pub mod ShownFiles
 pub mod NewEntries
+pub mod WholeEdits

@@ -4,3 +4,4 @@ pub mod NameEdits
 pub mod LinkEdits
 pub mod PutContents
 pub mod NewDirectories
+pub mod UnnumberedEntries

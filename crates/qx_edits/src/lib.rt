@@ -10,6 +10,7 @@ mod inode_laws;
 mod new_laws;
 mod put_laws;
 mod row_laws;
+mod whole_laws;
 
 pub use inode_laws::{
     a_file_is_rewritten, a_file_is_written, an_inode_comes, an_inode_loses_a_row, attributes_change,
@@ -20,3 +21,4 @@ pub use put_laws::{
     bytes_are_put_into_a_file,
 };
 pub use row_laws::{a_parent_is_moved, a_row_is_added, a_row_is_cleared, a_row_is_pointed};
+pub use whole_laws::{each_edit_keeps_the_tree_whole, new_inodes_are_whole};
