@@ -15,3 +15,4 @@ pub mod PutFiles
 pub mod ShownFiles
 pub mod NewEntries
 pub mod WholeEdits
+pub mod ComposedNames
