@@ -16,3 +16,5 @@ pub mod ShownFiles
 pub mod NewEntries
 pub mod WholeEdits
 pub mod ComposedNames
+pub mod JointPuts
+pub mod ExchangedNames

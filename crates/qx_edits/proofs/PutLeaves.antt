@@ -133,7 +133,7 @@ module _ (blocksize at : ℕ) (bytes : List ℕ) (pos : 0 < blocksize) (some : 0
   has_here : has_byte blocksize at (length bytes) (at / blocksize) ≡ true
   has_here = has_passes blocksize at (length bytes) (at / blocksize) (record { first = omega arith; last = omega (arith, split, some); some = some })
 
-  has_not : (i : ℕ) → i ≢ at / blocksize → has_byte blocksize at (length bytes) i ≡ false
+  pub has_not : (i : ℕ) → i ≢ at / blocksize → has_byte blocksize at (length bytes) i ≡ false
   has_not i ne = not_so _ (λ e.
       let has = passes_has blocksize at (length bytes) i e in
       let first = has.first in

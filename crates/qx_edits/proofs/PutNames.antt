@@ -64,7 +64,7 @@ module _ (order : Order) (name : List ℕ) (named : 0 < length name) (short : le
 
 module _ (order : Order) (blocksize : ℕ) (a b : NodeContent) (pos : 0 < blocksize) (over : IsOverBlocks blocksize a) (whole_size : a.size ≤ b.size) where
   -- a number that is present as before, and has the leaf that it had
-  name_beside : (j : ℕ) → is_in b.present j ≡ is_in a.present j → (is_in a.present j ≡ true → b.leaves j ≡ a.leaves j) → name_in order blocksize b j ≡ name_in order blocksize a j
+  pub name_beside : (j : ℕ) → is_in b.present j ≡ is_in a.present j → (is_in a.present j ≡ true → b.leaves j ≡ a.leaves j) → name_in order blocksize b j ≡ name_in order blocksize a j
   name_beside j same leaf = go (is_in a.present j) refl
     where
       go : (t : Bool) → is_in a.present j ≡ t → name_in order blocksize b j ≡ name_in order blocksize a j
@@ -75,7 +75,7 @@ module _ (order : Order) (blocksize : ℕ) (a b : NodeContent) (pos : 0 < blocks
           ∙ sym (λ i. if lt-ltb (j * blocksize) a.size low i then (if there i then long_name_in order (a.leaves j) else None) else None)
 
 -- a list with one more number has each other one as before
-number_beside : (xs : List ℕ) (k j : ℕ) → j ≢ k → is_in (with_number xs k) j ≡ is_in xs j
+pub number_beside : (xs : List ℕ) (k j : ℕ) → j ≢ k → is_in (with_number xs k) j ≡ is_in xs j
 number_beside xs k j ne = go (is_in xs j) refl
   where
     go : (t : Bool) → is_in xs j ≡ t → is_in (with_number xs k) j ≡ t
@@ -150,7 +150,7 @@ module _ (order : Order) (blocksize k : ℕ) (name : List ℕ) (c : Change) (a b
 -- ---- a name that goes
 
 -- a list without a number has each other one as before
-filter_beside : (xs : List ℕ) (k j : ℕ) → j ≢ k → is_in (filter (λ i. not (i == k)) xs) j ≡ is_in xs j
+pub filter_beside : (xs : List ℕ) (k j : ℕ) → j ≢ k → is_in (filter (λ i. not (i == k)) xs) j ≡ is_in xs j
 filter_beside xs k j ne = go (is_in xs j) refl
   where
     go : (t : Bool) → is_in xs j ≡ t → is_in (filter (λ i. not (i == k)) xs) j ≡ t

@@ -48,7 +48,7 @@ record_low size k pos whole =
     regroup q p z is = subst (λ x. q * x ≡ q * p * 32) (sym is) (grind arith)
 
 -- the size with the record
-size_more : (blocksize k size : ℕ) → size ≤ size_with_record blocksize k size
+pub size_more : (blocksize k size : ℕ) → size ≤ size_with_record blocksize k size
 size_more blocksize k size = go (nat_lt (k * 32) size)
   where
     go : (b : Bool) → size ≤ (if b then size else size + blocksize)
