@@ -1,6 +1,6 @@
 -- Operations that make and lose names, edit by edit.
-use Rattle.std.proofs.Common.{◌≡◌, ◌≢◌, ℕ, zero, suc, ◌+◌, ◌<◌, ◌≤◌, List, [], ◌∷◌, length, inl, inr, refl, sym, ◌∙◌, ap, subst, arith}
-use Rattle.std.specs.Prelude.{Bool, true, false, ◌==◌, None, Option, Some, count_by, is_none, is_some, slice_set, sum_by, unwrap_or, if◌then◌else◌}
+use Rattle.std.proofs.Common.{◌≡◌, ◌≢◌, ℕ, zero, suc, ◌+◌, ◌<◌, ◌≤◌, List, length, inl, inr, refl, sym, ◌∙◌, ap, subst, arith}
+use Rattle.std.specs.Prelude.{Bool, true, false, ◌==◌, None, Option, Some, count_by, is_none, is_some, slice_set, sum_by, if◌then◌else◌}
 use Rattle.std.specs.List.{list_all, position_or_len}
 use Rattle.std.proofs.lemmas.Bool.{cases_eq, eq-eqb, ne_eqb}
 use Rattle.qx_dir.specs.Rows.{row_of}
@@ -13,7 +13,7 @@ use Rattle.qx_model.specs.Edits.{Edit, Setting, absent_number, add_row, attr_cha
 use Rattle.qx_model.specs.LostNames.{RowAt, without_row}
 use Rattle.qx_model.specs.NewNames.{made_at}
 use Rattle.qx_model.specs.Paths.{Place}
-use Rattle.qx_model.specs.Tree.{Entry, Slot, Tree, Unused, entry_of, is_dots, is_link, links_of, named_by, slots_of, slots_of_body, slots_of_entry}
+use Rattle.qx_model.specs.Tree.{Entry, Tree, Unused, entry_of, is_dots, is_link, links_of, named_by, slots_of, slots_of_body, slots_of_entry}
 use Rattle.qx_model.specs.Whole.{HoldsRecords, IsWhole, IsWholeEntry}
 use Rattle.qx_model.proofs.EditOutlines.{IsDirectoryAt, directory_at, directory_slots, live_place}
 use Rattle.qx_model.proofs.Outlines.{entry-other, entry-same, slot_in}
@@ -34,7 +34,7 @@ use Rattle.qx_edits.specs.UnnumberedEntries.{HasNoNumbers}
 use Rattle.qx_edits.proofs.LinkedRows.{added_links, cleared_links, live_entry, unnamed_inodes}
 use Rattle.qx_edits.proofs.NamedLinks.{count_set, links_new, links_with, one_own}
 use Rattle.qx_edits.proofs.RowTrees.{cleared_is_set, rewritten}
-use Rattle.qx_edits.proofs.ShownInodes.{attr_links, attr_shown, gone_shown, lost_links, stays_shown}
+use Rattle.qx_edits.proofs.ShownInodes.{attr_shown, gone_shown, lost_links, stays_shown}
 use Rattle.qx_edits.proofs.ShownNamedRows.{added_shown, cleared_shown}
 use Rattle.qx_edits.proofs.WholeEdits.{come_whole}
 

@@ -1,6 +1,6 @@
 -- A directory whose inode gets other attributes and whose records say other slots: the tree with it so is shown.
-use Rattle.std.proofs.Common.{◌≡◌, ◌≢◌, ℕ, zero, suc, ◌+◌, ◌*◌, ◌/◌, ◌<◌, ◌≤◌, List, [], ◌∷◌, length, refl, sym, ◌∙◌, ap, subst, arith, get_or}
-use Rattle.std.specs.Prelude.{map, Option, Some, None, slice_get, unwrap_or}
+use Rattle.std.proofs.Common.{◌≡◌, ◌≢◌, ℕ, ◌*◌, ◌/◌, ◌<◌, ◌≤◌, List, [], ◌∷◌, length, sym, ◌∙◌, ap, subst, arith, get_or}
+use Rattle.std.specs.Prelude.{map, Option, Some, None, slice_get}
 use Rattle.std.proofs.lemmas.Option.{slice_get-get_or}
 use Rattle.qx_fields.specs.declared.order.Order.{Order}
 use Rattle.qx_geom.specs.Lists.{each_below}
@@ -9,20 +9,18 @@ use Rattle.qx_geom.specs.Positions.{present_after}
 use Rattle.qx_nodes.specs.LongNames.{name_in}
 use Rattle.qx_nodes.specs.NodeContents.{IsSameContent, NodeContent}
 use Rattle.qx_records.specs.declared.inode.Inode.{Inode}
-use Rattle.qx_records.specs.declared.kind.Kind.{Kind}
 use Rattle.qx_records.specs.declared.kind.Kind.TheVariants as kinds
 use Rattle.qx_records.specs.InodeRecord.{kind_of, kind_of_top}
 use Rattle.qx_model.specs.declared.attr.Attr.{Attr}
 use Rattle.qx_model.specs.Directories.{with_entry}
 use Rattle.qx_model.specs.Edits.{with_slots}
 use Rattle.qx_model.specs.Tree.{Directory, Entry, Slot, Tree, Unused, entry_of}
-use Rattle.qx_model.proofs.EditOutlines.{HasPlace, IsDirectoryAt, live_place}
+use Rattle.qx_model.proofs.EditOutlines.{IsDirectoryAt, live_place}
 use Rattle.qx_view.specs.Entries.{HasContent, Holds, IsBody, IsEntryOf, Reader, attr_of, slot_by, slots_in}
 use Rattle.qx_view.proofs.EntryContents.{holds_kind, kind_in}
-use Rattle.qx_copies.specs.Copies.{Contents, inode_at}
+use Rattle.qx_copies.specs.Copies.{Contents}
 use Rattle.qx_copies.specs.Shown.{IsSameInode, Shows, reader_by}
 use Rattle.qx_copies.proofs.ShownEntries.{shows_set}
-use Rattle.qx_copies.proofs.ShownNames.{listed_count, listed_slot}
 use Rattle.qx_edits.specs.RecordEdits.{record_of}
 use Rattle.qx_edits.specs.SetInodes.{SetsAttr}
 use Rattle.qx_edits.proofs.ListedElements.{all_there, each_there, listed_by}

@@ -1,20 +1,20 @@
 -- A long name goes and another comes by one change of the Longfile.
-use Rattle.std.proofs.Common.{◌≡◌, ◌≢◌, ℕ, zero, suc, ◌+◌, ◌*◌, ◌-◌, ◌/◌, ◌%◌, ◌<◌, ◌≤◌, ◌⊎◌, List, [], ◌∷◌, ◌++◌, length, inl, inr, refl, sym, ◌∙◌, ap, subst, arith}
-use Rattle.std.specs.Prelude.{Bool, true, false, not, filter, max, ◌==◌, Option, None, Some, replicate, if◌then◌else◌}
+use Rattle.std.proofs.Common.{◌≡◌, ◌≢◌, ℕ, ◌+◌, ◌*◌, ◌/◌, ◌%◌, ◌<◌, ◌≤◌, ◌⊎◌, List, [], ◌∷◌, ◌++◌, length, inl, inr, refl, sym, ◌∙◌, ap, subst, arith}
+use Rattle.std.specs.Prelude.{Bool, true, false, not, max, ◌==◌, None, Some, replicate, if◌then◌else◌}
 use Rattle.std.proofs.Math.Nat.{mul-div_cancel, mul-mod_left}
-use Rattle.std.proofs.lemmas.Bool.{cases_eq, eq-eqb, eqb-true, lt-ltb, ne_eqb}
+use Rattle.std.proofs.lemmas.Bool.{cases_eq, eq-eqb, lt-ltb, ne_eqb}
 use Rattle.std.proofs.lemmas.List.{length-append}
 use Rattle.qx_bytes.specs.Ranges.{put_at}
 use Rattle.qx_fields.specs.Number.{digits}
 use Rattle.qx_fields.specs.declared.order.Order.{Order}
 use Rattle.qx_fields.proofs.Fields.{length_digits}
-use Rattle.qx_geom.specs.Lists.{IsAscending, is_in}
+use Rattle.qx_geom.specs.Lists.{is_in}
 use Rattle.qx_geom.specs.Pointer.{ceil_div}
-use Rattle.qx_geom.specs.Positions.{present_after, with_number}
+use Rattle.qx_geom.specs.Positions.{with_number}
 use Rattle.qx_geom.proofs.ImagesAndFilters.{filter_in, in_filter, in_head_as}
 use Rattle.qx_geom.proofs.LevelCounts.{ceil_div-below, part_below}
 use Rattle.qx_geom.proofs.PresentLeaves.{number_ascends, number_in, others_in, present_after_ascends, present_after_members, with_number_from}
-use Rattle.qx_geom.proofs.Truths.{not_so, not_true, true_or_false}
+use Rattle.qx_geom.proofs.Truths.{not_true, true_or_false}
 use Rattle.qx_long.specs.NamePlans.{unless}
 use Rattle.qx_nodes.specs.LongNames.{name_in}
 use Rattle.qx_nodes.specs.NodeContents.{NodeContent}
@@ -28,7 +28,7 @@ use Rattle.qx_edits.specs.NameEdits.{AddsName, DropsName}
 use Rattle.qx_edits.specs.PutContents.{IsOverBlocks, IsPutInto}
 use Rattle.qx_edits.proofs.JointPuts.{only, same_leaves}
 use Rattle.qx_edits.proofs.PutLeaves.{changed_over, put_beside, put_here}
-use Rattle.qx_edits.proofs.PutNames.{filter_beside, name_beside, name_dropped, name_put, number_beside}
+use Rattle.qx_edits.proofs.PutNames.{name_beside, name_dropped, name_put, number_beside}
 
 -- the change that takes one leaf out
 abbrev out_of : ℕ → ℕ → Change

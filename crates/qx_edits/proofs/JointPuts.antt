@@ -1,19 +1,18 @@
 -- One change of a node that does what two edits ask.
-use Rattle.std.proofs.Common.{◌≡◌, ◌≢◌, ℕ, zero, suc, ◌+◌, ◌*◌, ◌-◌, ◌/◌, ◌%◌, ◌<◌, ◌≤◌, ◌⊎◌, ◌↔◌, List, [], ◌∷◌, ◌++◌, length, inl, inr, refl, sym, ◌∙◌, ap, subst, arith}
-use Rattle.std.specs.Prelude.{Bool, true, false, not, filter, max, ◌==◌, Option, None, Some, Contains, replicate, if◌then◌else◌}
+use Rattle.std.proofs.Common.{◌≡◌, ℕ, ◌+◌, ◌*◌, ◌-◌, ◌/◌, ◌%◌, ◌<◌, ◌≤◌, ◌⊎◌, ◌↔◌, List, [], ◌∷◌, length, inl, inr, refl, sym, ◌∙◌, ap, subst, arith}
+use Rattle.std.specs.Prelude.{Bool, true, false, None, Some, replicate, if◌then◌else◌}
 use Rattle.std.proofs.Math.Nat.{div-mul-le_self}
-use Rattle.std.proofs.lemmas.Bool.{cases_eq, eq-eqb, lt-ltb, ne_eqb}
+use Rattle.std.proofs.lemmas.Bool.{cases_eq, lt-ltb}
 use Rattle.std.proofs.lemmas.Nat.{le-div}
-use Rattle.qx_fields.specs.Number.{digits}
 use Rattle.qx_fields.specs.declared.order.Order.{Order}
 use Rattle.qx_file.specs.Puts.{with_part}
 use Rattle.qx_geom.specs.Lists.{IsAscending, is_in}
 use Rattle.qx_geom.specs.Pointer.{ceil_div}
-use Rattle.qx_geom.specs.Positions.{present_after, with_number}
+use Rattle.qx_geom.specs.Positions.{present_after}
 use Rattle.qx_geom.proofs.AscendingLists.{ascending_same}
 use Rattle.qx_geom.proofs.ImagesAndFilters.{Contains-in, in_Contains, in_head_as}
 use Rattle.qx_geom.proofs.LevelCounts.{part_below}
-use Rattle.qx_geom.proofs.Members.{in_cases, in_head}
+use Rattle.qx_geom.proofs.Members.{in_cases}
 use Rattle.qx_geom.proofs.PresentLeaves.{present_after_ascends, present_after_members}
 use Rattle.qx_geom.proofs.Truths.{not_so, true_or_false}
 use Rattle.qx_nodes.specs.NodeContents.{IsSameContent, NodeContent}
@@ -22,7 +21,6 @@ use Rattle.qx_ptree.specs.Fates.{leaves_after, written_by}
 use Rattle.qx_records.specs.NameRecord.{RawRecord, raw_in}
 use Rattle.qx_batch.specs.Changes.{changed_content}
 use Rattle.qx_batch.specs.PutNodes.{has_byte, put_content}
-use Rattle.qx_batch.proofs.NodeContentsAfter.{passes_has}
 use Rattle.qx_copies.proofs.ShownContents.{same_itself}
 use Rattle.qx_model.specs.Edits.{leaf_of_record}
 use Rattle.qx_model.specs.Whole.{HoldsRecords}

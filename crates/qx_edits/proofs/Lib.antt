@@ -18,3 +18,4 @@ pub mod WholeEdits
 pub mod ComposedNames
 pub mod JointPuts
 pub mod ExchangedNames
+pub mod ComposedMoves

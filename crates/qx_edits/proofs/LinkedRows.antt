@@ -1,12 +1,12 @@
 -- The links of trees after edits of rows.
-use Rattle.std.proofs.Common.{◌≡◌, ◌≢◌, ℕ, zero, suc, ◌+◌, ◌<◌, ◌≤◌, List, [], ◌∷◌, length, inl, inr, refl, sym, ◌∙◌, ap, subst, arith}
-use Rattle.std.specs.Prelude.{true, false, Option, Some, None, count_by, is_some, slice_get, slice_set, unwrap_or}
+use Rattle.std.proofs.Common.{◌≡◌, ℕ, zero, suc, ◌+◌, ◌<◌, List, [], ◌∷◌, length, inl, inr, refl, sym, ◌∙◌, ap, subst, arith}
+use Rattle.std.specs.Prelude.{true, false, Option, Some, None, count_by, is_some, slice_set, unwrap_or}
 use Rattle.std.specs.List.{position_or_len}
 use Rattle.std.proofs.lemmas.Bool.{cases_eq}
 use Rattle.std.proofs.lemmas.Option.{slice_get_within}
 use Rattle.qx_model.specs.Directories.{is_live, is_unused, long_of_slot, slot_at, with_entry}
 use Rattle.qx_model.specs.Edits.{Edit, Setting, add_row, clear_row, leaf_of_record, number_for, point_row, pointed, slots_with, with_long, with_parent, with_slots, without_long}
-use Rattle.qx_model.specs.Tree.{Directory, Entry, Row, Slot, Tree, Unused, entry_of, is_dots, is_link, links_of, named_by}
+use Rattle.qx_model.specs.Tree.{Directory, Entry, Row, Tree, Unused, entry_of, is_dots, is_link, links_of, named_by}
 use Rattle.qx_model.specs.Whole.{IsWhole, IsWholeDirectory}
 use Rattle.qx_model.proofs.EditOutlines.{IsDirectoryAt, directory_slots, live_place}
 use Rattle.qx_model.proofs.Outlines.{entry-other, slot_in}

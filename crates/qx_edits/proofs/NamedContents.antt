@@ -1,5 +1,5 @@
 -- The long names of a tree once the Longfile's content gets a name, or loses one.
-use Rattle.std.proofs.Common.{◌≡◌, ◌≢◌, ℕ, zero, suc, ◌+◌, ◌*◌, ◌<◌, ◌≤◌, List, [], ◌∷◌, length, inl, inr, refl, sym, ◌∙◌, ap, subst, arith}
+use Rattle.std.proofs.Common.{◌≡◌, ℕ, ◌+◌, ◌*◌, ◌<◌, ◌≤◌, List, length, inl, inr, refl, sym, ◌∙◌, ap, subst, arith}
 use Rattle.std.specs.Prelude.{Bool, true, false, max, nat_lt, Option, Some, None, slice_get, slice_set, if◌then◌else◌}
 use Rattle.std.proofs.lemmas.Bool.{cases_eq}
 use Rattle.std.proofs.lemmas.List.{length-set}
@@ -7,7 +7,6 @@ use Rattle.std.proofs.lemmas.List.FromFn.{length-map-range_with_len}
 use Rattle.qx_fields.specs.declared.order.Order.{Order}
 use Rattle.qx_geom.specs.Lists.{each_below, is_in}
 use Rattle.qx_geom.specs.Pointer.{ceil_div}
-use Rattle.qx_geom.proofs.Truths.{not_so, true_or_false}
 use Rattle.qx_nodes.specs.LongNames.{name_in}
 use Rattle.qx_nodes.specs.NodeContents.{NodeContent}
 use Rattle.qx_records.specs.NameRecord.{long_name_in}
@@ -15,7 +14,7 @@ use Rattle.qx_model.specs.Edits.{absent_number, with_place}
 use Rattle.qx_model.specs.Tree.{Tree}
 use Rattle.qx_model.specs.Whole.{HasWholeNames}
 use Rattle.qx_model.proofs.Outlines.{get-set_at, get-set_other}
-use Rattle.qx_model.proofs.WholeNames.{named_whole, number_room, place_at, place_beside, place_long, unnamed_whole}
+use Rattle.qx_model.proofs.WholeNames.{named_whole, number_room, place_at, place_beside, place_long}
 use Rattle.qx_model.proofs.WholeRows.{ceil_multiple}
 use Rattle.qx_edits.specs.NameEdits.{AddsName, DropsName}
 use Rattle.qx_edits.proofs.ListedElements.{given_at, listed_by}

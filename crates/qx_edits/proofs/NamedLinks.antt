@@ -1,22 +1,22 @@
 -- The links of a tree in which one inode is set.
 use Rattle.std.proofs.Common.{◌≡◌, ◌≢◌, ℕ, zero, suc, ◌+◌, ◌-◌, ◌/◌, ◌<◌, ◌≤◌, List, [], ◌∷◌, ◌++◌, length, inl, inr, refl, sym, ◌∙◌, ap, subst, arith, get_or}
-use Rattle.std.specs.Prelude.{Bool, true, false, ◌&&◌, ◌==◌, Option, Some, None, count_by, is_none, is_some, nat_lt, option_map, replicate, slice_get, slice_set, sum_by, unwrap_or, if◌then◌else◌}
+use Rattle.std.specs.Prelude.{Bool, true, false, ◌==◌, Option, Some, None, count_by, is_none, nat_lt, replicate, slice_get, slice_set, sum_by, if◌then◌else◌}
 use Rattle.std.specs.List.{list_all, position_or_len}
 use Rattle.std.specs.Option.{option_flatten, option_map_or}
-use Rattle.std.proofs.lemmas.Bool.{cases_eq, cases_lt, eq-eqb, ltb-true, ltb-false, ne_eqb}
-use Rattle.std.proofs.lemmas.List.{length-set, set-set}
+use Rattle.std.proofs.lemmas.Bool.{cases_eq, eq-eqb, ltb-true, ne_eqb}
+use Rattle.std.proofs.lemmas.List.{length-set}
 use Rattle.std.proofs.lemmas.List.Sums.{sum_by-cons, sum_by-set}
-use Rattle.std.proofs.lemmas.Option.{slice_get-get_or, slice_get_past, unwrap_or-slice_get}
+use Rattle.std.proofs.lemmas.Option.{slice_get-get_or, unwrap_or-slice_get}
 use Rattle.qx_geom.proofs.Truths.{and_left, and_right}
 use Rattle.qx_model.specs.Directories.{is_unused, parent_of_body, with_entry}
 use Rattle.qx_model.specs.Edits.{pointed, slots_with}
 use Rattle.qx_model.specs.Tree.{Body, Directory, Entry, File, IsDirectory, Row, Slot, Special, Tree, Unused, entry_of, is_dots, is_link, links_of, named_by, slots_of, slots_of_body, slots_of_entry}
 use Rattle.qx_model.specs.Tree as trees
 use Rattle.qx_model.proofs.EditOutlines.{HasPlace, IsDirectoryAt, directory_slots, live_place, unused_place}
-use Rattle.qx_model.proofs.Outlines.{entry-other, set_past, slot_in}
+use Rattle.qx_model.proofs.Outlines.{entry-other, slot_in}
 use Rattle.qx_model.proofs.WholeRows.{entry_set}
 use Rattle.qx_working.specs.declared.links.Link.{Link}
-use Rattle.qx_working.specs.Links.{HasLinks, NamesAlike, link_of, with_link}
+use Rattle.qx_working.specs.Links.{HasLinks, link_of, with_link}
 use Rattle.qx_working.proofs.SetLinks.{links_set}
 use Rattle.qx_edits.specs.LinkEdits.{into_parent, one_less, one_more}
 

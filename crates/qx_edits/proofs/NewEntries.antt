@@ -1,9 +1,8 @@
 -- What the contents of new inodes' nodes are as entries, and how they are filled.
-use Rattle.std.proofs.Common.{◌≡◌, ◌≢◌, ℕ, zero, suc, ◌+◌, ◌*◌, ◌-◌, ◌/◌, ◌%◌, ◌<◌, ◌≤◌, ◌^◌, List, [], ◌∷◌, ◌++◌, length, take, drop, inl, inr, refl, sym, ◌∙◌, ap, subst, arith, lit<, append-nil}
-use Rattle.std.specs.Prelude.{Bool, true, false, fold, map, Option, None, Some, replicate, slice_get, slice_index, slice_range, Contains}
+use Rattle.std.proofs.Common.{◌≡◌, ℕ, zero, suc, ◌+◌, ◌*◌, ◌-◌, ◌/◌, ◌%◌, ◌<◌, ◌^◌, List, [], ◌∷◌, ◌++◌, length, take, drop, inl, inr, refl, sym, ◌∙◌, ap, subst, arith, lit<, append-nil}
+use Rattle.std.specs.Prelude.{true, false, map, None, Some, replicate, slice_get, slice_index, slice_range}
 use Rattle.std.specs.List.{range_with_len}
 use Rattle.std.proofs.Math.Nat.{div-eq_of_lt-le, mod-eq_of_lt, mod-lt}
-use Rattle.std.proofs.lemmas.Bool.{cases_lt}
 use Rattle.std.proofs.lemmas.List.{append_assoc, drop_all, get_or-replicate, length-append, length-replicate}
 use Rattle.qx_bytes.specs.Ranges.{put_at}
 use Rattle.qx_bytes.proofs.Pieces.{Piece, joined, range_of_piece}
@@ -12,14 +11,13 @@ use Rattle.qx_outside.specs.Trail.{resized}
 use Rattle.qx_fields.specs.declared.order.Order.{Order}
 use Rattle.qx_geom.specs.Lists.{IsAscending, each_below, is_in}
 use Rattle.qx_geom.specs.Pointer.{ceil_div}
-use Rattle.qx_geom.specs.Positions.{kept_leaves, present_after, with_number}
+use Rattle.qx_geom.specs.Positions.{present_after}
 use Rattle.qx_geom.proofs.AscendingLists.{ascending_same}
 use Rattle.qx_geom.proofs.ImagesAndFilters.{Contains-in, in_Contains}
 use Rattle.qx_geom.proofs.LevelCounts.{part_below}
 use Rattle.qx_geom.proofs.Members.{in_head}
 use Rattle.qx_geom.proofs.PresentLeaves.{present_after_ascends, present_after_members}
 use Rattle.qx_view.proofs.AscendingRanges.{range_ascends}
-use Rattle.qx_geom.proofs.Truths.{true_or_false}
 use Rattle.qx_nodes.specs.NodeContents.{NodeContent, bytes_in}
 use Rattle.qx_nodes.proofs.ZeroBytes.{slice_zeros}
 use Rattle.qx_ptree.specs.declared.change.Change.{Change}
@@ -27,8 +25,7 @@ use Rattle.qx_ptree.specs.Fates.{leaves_after, written_by}
 use Rattle.qx_records.specs.declared.inode.Inode.{Inode}
 use Rattle.qx_records.specs.declared.kind.Kind.TheVariants as kinds
 use Rattle.qx_records.specs.InodeRecord.{kind_of}
-use Rattle.qx_records.specs.NameRecord.{Short, raw_in}
-use Rattle.qx_records.specs.NameRecord as raws
+use Rattle.qx_records.specs.NameRecord.{raw_in}
 use Rattle.qx_records.specs.WrittenNames.{short_bytes}
 use Rattle.qx_records.proofs.WrittenRecords.{length_short_bytes, raw_in-short_bytes}
 use Rattle.qx_batch.specs.Changes.{changed_content}
@@ -36,7 +33,7 @@ use Rattle.qx_batch.specs.PutNodes.{put_content}
 use Rattle.qx_model.specs.EmptyTree.{new_directory}
 use Rattle.qx_model.specs.Edits.{directory_mode, file_mode, link_mode, new_attr, new_link}
 use Rattle.qx_model.specs.NewNames.{empty_file}
-use Rattle.qx_model.specs.Tree.{Directory, Row, Slot, Unused, dot_name, dots_name}
+use Rattle.qx_model.specs.Tree.{Row, Slot, Unused, dot_name, dots_name}
 use Rattle.qx_model.specs.Whole.{HoldsRecords}
 use Rattle.qx_model.proofs.WholeOperations.{resized_long}
 use Rattle.qx_model.proofs.WholeRows.{multiple}

@@ -1,10 +1,10 @@
 -- The bytes of a file that was changed and into which bytes were put.
-use Rattle.std.proofs.Common.{◌≡◌, ◌≢◌, ℕ, zero, suc, ◌+◌, ◌*◌, ◌-◌, ◌/◌, ◌%◌, ◌<◌, ◌≤◌, ◌⊎◌, min, List, [], ◌∷◌, ◌++◌, length, take, drop, get_or, inl, inr, refl, sym, ◌∙◌, ap, subst, arith, length-append, length-drop, length-take}
+use Rattle.std.proofs.Common.{◌≡◌, ℕ, ◌+◌, ◌*◌, ◌-◌, ◌/◌, ◌%◌, ◌<◌, ◌≤◌, ◌⊎◌, List, length, take, drop, inl, inr, refl, sym, ◌∙◌, ap, arith, length-take}
 use Rattle.std.specs.Prelude.{Bool, true, false, None, replicate, nat_lt, slice_index, slice_range, if◌then◌else◌}
 use Rattle.std.proofs.Math.Nat.{mod-lt}
 use Rattle.std.proofs.Math.ListN.{get_or-append}
 use Rattle.std.proofs.lemmas.Bool.{cases_lt, ltb-false, ltb-true}
-use Rattle.std.proofs.lemmas.List.{ext_get_or, get_or-append_right, get_or-drop, get_or-replicate, get_or-take, length-replicate}
+use Rattle.std.proofs.lemmas.List.{ext_get_or, get_or-append_right, get_or-drop, get_or-replicate, get_or-take}
 use Rattle.std.proofs.lemmas.List.FromFn.{get_or-map-range_with_len, length-map-range_with_len}
 use Rattle.std.proofs.lemmas.Nat.{div-add-mod', le-div}
 use Rattle.qx_bytes.specs.Ranges.{put_at}
@@ -13,7 +13,6 @@ use Rattle.qx_outside.specs.Trail.{resized}
 use Rattle.qx_file.specs.Puts.{HasByte, with_part}
 use Rattle.qx_file.proofs.PartBytes.{ends_past}
 use Rattle.qx_file.proofs.PutContent.{leaf_end, part_long}
-use Rattle.qx_geom.specs.Pointer.{ceil_div}
 use Rattle.qx_geom.proofs.LevelCounts.{part_below}
 use Rattle.qx_nodes.specs.NodeContents.{NodeContent, bytes_in}
 use Rattle.qx_ptree.specs.declared.change.Change.{Change}

@@ -1,13 +1,13 @@
 -- The leaves of a content that was changed, and of one into which bytes were put that lie in one leaf.
-use Rattle.std.proofs.Common.{◌≡◌, ◌≢◌, ℕ, zero, suc, ◌+◌, ◌*◌, ◌-◌, ◌/◌, ◌%◌, ◌<◌, ◌≤◌, ◌⊎◌, List, [], ◌∷◌, length, inl, inr, refl, sym, ◌∙◌, ap, subst, arith}
-use Rattle.std.specs.Prelude.{Bool, true, false, IsTrue, None, Some, drop, min, replicate, slice_range, take, if◌then◌else◌}
-use Rattle.std.proofs.lemmas.List.{length-drop, length-replicate, length-take, take_all}
+use Rattle.std.proofs.Common.{◌≡◌, ◌≢◌, ℕ, ◌+◌, ◌*◌, ◌-◌, ◌/◌, ◌%◌, ◌<◌, ◌≤◌, List, [], length, inl, inr, refl, sym, ◌∙◌, ap, subst, arith}
+use Rattle.std.specs.Prelude.{Bool, true, false, IsTrue, None, Some, replicate, slice_range, if◌then◌else◌}
+use Rattle.std.proofs.lemmas.List.{length-replicate, take_all}
 use Rattle.std.proofs.lemmas.Nat.{div-add-mod'}
 use Rattle.qx_blocks.specs.BlockState.{BlockState}
 use Rattle.qx_bytes.specs.Ranges.{put_at}
 use Rattle.qx_bytes.proofs.Puts.{length_put}
 use Rattle.qx_fields.specs.declared.order.Order.{Order}
-use Rattle.qx_file.specs.Puts.{HasByte, with_part}
+use Rattle.qx_file.specs.Puts.{with_part}
 use Rattle.qx_file.proofs.PartBytes.{ends_past}
 use Rattle.qx_file.proofs.PutContent.{leaf_end, part_long}
 use Rattle.qx_geom.specs.declared.root.Root.{Root}

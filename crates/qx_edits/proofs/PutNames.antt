@@ -1,8 +1,8 @@
 -- A long name that is put into a Longfile's content, and one whose leaf is taken out.
-use Rattle.std.proofs.Common.{◌≡◌, ◌≢◌, ℕ, zero, suc, ◌+◌, ◌*◌, ◌-◌, ◌/◌, ◌%◌, ◌<◌, ◌≤◌, ◌^◌, List, [], ◌∷◌, ◌++◌, length, drop, take, replicate, inl, inr, refl, sym, ◌∙◌, ap, subst, arith, lit<}
-use Rattle.std.specs.Prelude.{Bool, true, false, ◌&&◌, not, filter, max, nat_lt, ◌==◌, cond, Option, None, Some, slice_range, if◌then◌else◌}
+use Rattle.std.proofs.Common.{◌≡◌, ◌≢◌, ℕ, ◌+◌, ◌*◌, ◌/◌, ◌%◌, ◌<◌, ◌≤◌, List, [], ◌∷◌, ◌++◌, length, drop, take, replicate, inl, inr, refl, sym, ◌∙◌, ap, subst, arith, lit<}
+use Rattle.std.specs.Prelude.{Bool, true, false, ◌&&◌, not, filter, max, nat_lt, ◌==◌, cond, None, Some, slice_range, if◌then◌else◌}
 use Rattle.std.proofs.Math.Nat.{mul-div_cancel, mul-mod_left}
-use Rattle.std.proofs.lemmas.Bool.{cases_eq, cases_lt, eqb-true, lt-ltb, ne_eqb}
+use Rattle.std.proofs.lemmas.Bool.{lt-ltb, ne_eqb}
 use Rattle.std.proofs.lemmas.List.{append_assoc, length-append}
 use Rattle.qx_bytes.specs.Ranges.{put_at}
 use Rattle.qx_bytes.proofs.Pieces.{Piece, joined, range_of_piece}
@@ -11,7 +11,7 @@ use Rattle.qx_fields.specs.declared.order.Order.{Order}
 use Rattle.qx_fields.proofs.Fields.{field_spelled, length_digits}
 use Rattle.qx_geom.specs.Lists.{is_in}
 use Rattle.qx_geom.specs.Pointer.{ceil_div}
-use Rattle.qx_geom.specs.Positions.{is_named, kept_leaves, present_after, with_number}
+use Rattle.qx_geom.specs.Positions.{present_after, with_number}
 use Rattle.qx_geom.proofs.LevelCounts.{ceil_div-below, part_below}
 use Rattle.qx_geom.proofs.ImagesAndFilters.{filter_in, in_filter}
 use Rattle.qx_geom.proofs.Members.{in_head, in_tail}
@@ -28,7 +28,7 @@ use Rattle.qx_batch.specs.PutNodes.{put_content}
 use Rattle.qx_edits.specs.NameEdits.{AddsName, DropsName}
 use Rattle.qx_edits.specs.PutContents.{IsOverBlocks, IsPutInto}
 use Rattle.qx_edits.proofs.NamedContents.{name_absent}
-use Rattle.qx_edits.proofs.PutLeaves.{changed_long, kept_leaf, put_beside, put_here}
+use Rattle.qx_edits.proofs.PutLeaves.{kept_leaf, put_beside, put_here}
 
 -- ---- lists of leaves
 

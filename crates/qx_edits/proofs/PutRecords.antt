@@ -1,8 +1,8 @@
 -- A record that is put into a directory's content.
-use Rattle.std.proofs.Common.{◌≡◌, ◌≢◌, ℕ, zero, suc, ◌+◌, ◌*◌, ◌-◌, ◌/◌, ◌%◌, ◌<◌, ◌≤◌, ◌⊎◌, List, [], ◌∷◌, length, inl, inr, refl, sym, ◌∙◌, ap, subst, arith}
+use Rattle.std.proofs.Common.{◌≡◌, ◌≢◌, ℕ, ◌+◌, ◌*◌, ◌/◌, ◌%◌, ◌<◌, ◌≤◌, ◌⊎◌, List, [], ◌∷◌, length, inl, inr, refl, sym, ◌∙◌, ap, subst, arith}
 use Rattle.std.specs.Prelude.{Bool, true, false, ◌||◌, None, nat_lt, replicate, slice_range, if◌then◌else◌}
 use Rattle.std.proofs.Math.Nat.{mod-lt}
-use Rattle.std.proofs.lemmas.Bool.{cases_eq, cases_lt, eq-eqb, ltb-false, ltb-true}
+use Rattle.std.proofs.lemmas.Bool.{cases_eq, cases_lt, eq-eqb, ltb-true}
 use Rattle.std.proofs.lemmas.Nat.{div-add-mod', le-div}
 use Rattle.qx_bytes.specs.Ranges.{put_at}
 use Rattle.qx_bytes.proofs.Puts.{range_put_apart, range_put_same}
@@ -18,7 +18,7 @@ use Rattle.qx_nodes.proofs.ZeroBytes.{field_zeros, slice_zeros}
 use Rattle.qx_records.specs.NameRecord.{RawRecord, raw_in}
 use Rattle.qx_records.specs.NameRecord as raws
 use Rattle.qx_ptree.specs.declared.change.Change.{Change}
-use Rattle.qx_ptree.specs.Fates.{leaves_after, written_by}
+use Rattle.qx_ptree.specs.Fates.{written_by}
 use Rattle.qx_batch.specs.Changes.{changed_content}
 use Rattle.qx_batch.specs.PutNodes.{put_content}
 use Rattle.qx_model.specs.Edits.{leaf_of_record}

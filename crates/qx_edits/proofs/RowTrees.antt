@@ -1,6 +1,6 @@
 -- The trees that edits of rows make: each is one inode set.
-use Rattle.std.proofs.Common.{◌≡◌, ℕ, zero, suc, List, [], ◌∷◌, refl, sym, ◌∙◌, ap}
-use Rattle.std.specs.Prelude.{Option, Some, None, option_map, slice_set, unwrap_or}
+use Rattle.std.proofs.Common.{◌≡◌, ℕ, zero, suc, List, refl, ◌∙◌, ap}
+use Rattle.std.specs.Prelude.{Option, Some, option_map, slice_set, unwrap_or}
 use Rattle.std.specs.List.{position_or_len}
 use Rattle.std.proofs.lemmas.List.{set-set}
 use Rattle.qx_model.specs.Directories.{has_name, is_unused, long_of_slot, parent_of, slot_at, with_entry}

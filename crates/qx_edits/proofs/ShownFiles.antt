@@ -1,5 +1,5 @@
 -- What is shown once bytes were put into a file, or it has another size.
-use Rattle.std.proofs.Common.{◌≡◌, ◌≢◌, ℕ, ◌+◌, ◌<◌, ◌≤◌, List, [], ◌∷◌, length, refl, sym, ◌∙◌, ap, subst, arith}
+use Rattle.std.proofs.Common.{◌≡◌, ◌≢◌, ℕ, ◌+◌, ◌<◌, ◌≤◌, List, [], ◌∷◌, length, sym, ◌∙◌, ap, subst, arith}
 use Rattle.std.specs.Prelude.{None, Option, Some, max}
 use Rattle.qx_bytes.specs.Ranges.{put_at}
 use Rattle.qx_outside.specs.Trail.{resized}
@@ -14,8 +14,8 @@ use Rattle.qx_records.specs.declared.kind.Kind.TheVariants as kinds
 use Rattle.qx_model.specs.Answering.{FileAt}
 use Rattle.qx_model.specs.Contents.{cut_leaves, leaves_of_range, rewriting, written_at}
 use Rattle.qx_model.specs.Edits.{Setting, content_changed, unchanged}
-use Rattle.qx_model.specs.Tree.{Entry, File, Tree, entry_of}
-use Rattle.qx_view.specs.Entries.{HasContent, Holds, IsBody, IsEntryOf, Reader}
+use Rattle.qx_model.specs.Tree.{File, Tree, entry_of}
+use Rattle.qx_view.specs.Entries.{HasContent, Holds, IsBody, IsEntryOf}
 use Rattle.qx_view.proofs.EntryContents.{holds_kind, kind_in}
 use Rattle.qx_copies.specs.Copies.{Contents}
 use Rattle.qx_copies.specs.Shown.{Shows, reader_by}

@@ -1,7 +1,6 @@
 -- What is shown once an inode comes, goes or gets other attributes, and once a file gets other bytes.
-use Rattle.std.proofs.Common.{◌≡◌, ◌≢◌, ℕ, zero, suc, ◌+◌, ◌/◌, ◌<◌, ◌≤◌, ◌⊎◌, List, [], ◌∷◌, length, inl, inr, refl, sym, ◌∙◌, ap, subst, arith}
-use Rattle.std.specs.Prelude.{Bool, true, false, ◌==◌, Option, Some, None, count_by, is_none, option_map, if◌then◌else◌}
-use Rattle.std.specs.List.{list_all}
+use Rattle.std.proofs.Common.{◌≡◌, ◌≢◌, ℕ, zero, suc, ◌/◌, ◌<◌, ◌≤◌, ◌⊎◌, List, [], length, inl, inr, refl, sym, ◌∙◌, ap, subst, arith}
+use Rattle.std.specs.Prelude.{Bool, true, false, ◌==◌, Option, Some, None, count_by, option_map, if◌then◌else◌}
 use Rattle.std.proofs.lemmas.Bool.{cases_lt, eq-eqb, ne_eqb}
 use Rattle.qx_fields.specs.declared.order.Order.{Order}
 use Rattle.qx_geom.specs.Pointer.{ceil_div}
@@ -15,11 +14,11 @@ use Rattle.qx_model.specs.Answering.{FileAt}
 use Rattle.qx_model.specs.Contents.{rewriting, with_content}
 use Rattle.qx_model.specs.Directories.{is_bare, is_live, parent_of_body, with_entry}
 use Rattle.qx_model.specs.Edits.{Edit, Setting, altering, attr_changed, content_changed, lose_row, putting, unchanged, with_attr}
-use Rattle.qx_model.specs.Tree.{Entry, File, Tree, entry_of, is_link, links_of, named_by, slots_of, slots_of_body, slots_of_entry}
+use Rattle.qx_model.specs.Tree.{Entry, File, Tree, entry_of, is_link, links_of, slots_of, slots_of_body, slots_of_entry}
 use Rattle.qx_model.proofs.EditOutlines.{HasPlace, live_place}
 use Rattle.qx_model.proofs.Outlines.{set_past}
 use Rattle.qx_model.proofs.WholeRows.{entry_altered}
-use Rattle.qx_view.specs.Entries.{HasContent, Holds, IsEntryOf, Reader, attr_of}
+use Rattle.qx_view.specs.Entries.{HasContent, Holds, IsEntryOf, Reader}
 use Rattle.qx_view.proofs.EntryContents.{entry_alike, holds_kind, kind_in}
 use Rattle.qx_copies.specs.Copies.{Contents, inode_at}
 use Rattle.qx_copies.specs.Shown.{IsSameInode, SetsInode, Shows, reader_by}

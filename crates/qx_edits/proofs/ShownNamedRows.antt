@@ -1,9 +1,9 @@
 -- What is shown once a row is added or cleared, with its long name.
-use Rattle.std.proofs.Common.{◌≡◌, ◌≢◌, ℕ, zero, suc, ◌+◌, ◌*◌, ◌<◌, ◌≤◌, List, [], ◌∷◌, length, inl, inr, refl, sym, ◌∙◌, ap, subst, arith}
+use Rattle.std.proofs.Common.{◌≡◌, ◌≢◌, ℕ, zero, suc, ◌+◌, ◌*◌, ◌<◌, List, length, refl, sym, ◌∙◌, ap, subst, arith}
 use Rattle.std.specs.Prelude.{Bool, true, false, not, filter, max, nat_lt, ◌==◌, Option, Some, None, slice_get, slice_set, unwrap_or, if◌then◌else◌}
 use Rattle.std.specs.List.{position_or_len}
 use Rattle.std.specs.Option.{option_flatten}
-use Rattle.std.proofs.lemmas.Bool.{cases_eq, eq-eqb}
+use Rattle.std.proofs.lemmas.Bool.{eq-eqb}
 use Rattle.qx_fields.specs.declared.order.Order.{Order}
 use Rattle.qx_geom.specs.Lists.{is_in}
 use Rattle.qx_geom.specs.Positions.{with_number}
@@ -16,18 +16,17 @@ use Rattle.qx_records.specs.NameRecord as raws
 use Rattle.qx_records.specs.declared.inode.Inode.{Inode}
 use Rattle.qx_model.specs.Directories.{is_unused, long_of_slot, slot_at, with_entry}
 use Rattle.qx_model.specs.Edits.{Edit, Setting, absent_number, add_row, clear_row, content_changed, number_for, slots_with, with_long, without_long}
-use Rattle.qx_model.specs.Tree.{Entry, Row, Slot, Tree, Unused, entry_of, slots_of_entry}
+use Rattle.qx_model.specs.Tree.{Entry, Row, Slot, Tree, Unused, slots_of_entry}
 use Rattle.qx_model.specs.Whole.{HasNumber, HasRowFor, HoldsRecords, IsWhole, long_name_of}
 use Rattle.qx_model.proofs.EditOutlines.{IsDirectoryAt, live_place, replaced, slots_with-in}
-use Rattle.qx_model.proofs.Outlines.{slot_in}
 use Rattle.qx_model.proofs.WholeNames.{number_free, unnamed_at}
-use Rattle.qx_model.proofs.WholeNumbers.{HasNames, longs_with, names_cleared, same_name}
+use Rattle.qx_model.proofs.WholeNumbers.{longs_with, names_cleared, same_name}
 use Rattle.qx_copies.specs.Copies.{Contents}
 use Rattle.qx_copies.specs.Shown.{Shows}
 use Rattle.qx_copies.proofs.ShownContents.{same_itself, shows_alike}
 use Rattle.qx_copies.proofs.ShownNames.{shows_names}
-use Rattle.qx_edits.specs.NameEdits.{AddsName, DropsName, GetsName, LosesName}
-use Rattle.qx_edits.specs.RecordEdits.{SetsRecord, record_of}
+use Rattle.qx_edits.specs.NameEdits.{AddsName, GetsName, LosesName}
+use Rattle.qx_edits.specs.RecordEdits.{SetsRecord}
 use Rattle.qx_edits.specs.SetInodes.{SetsAttr}
 use Rattle.qx_edits.proofs.LinkedRows.{unnamed_inodes}
 use Rattle.qx_edits.proofs.NamedContents.{added_names, dropped_names}

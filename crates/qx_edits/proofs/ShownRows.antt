@@ -1,26 +1,25 @@
 -- What is shown once a row is added, cleared or pointed elsewhere.
-use Rattle.std.proofs.Common.{◌≡◌, ◌≢◌, ℕ, zero, suc, ◌+◌, ◌*◌, ◌/◌, ◌<◌, ◌≤◌, List, [], ◌∷◌, length, inl, inr, refl, sym, ◌∙◌, ap, subst, arith}
-use Rattle.std.specs.Prelude.{Bool, true, false, Option, Some, None, map, nat_lt, slice_get, slice_set, unwrap_or, if◌then◌else◌}
+use Rattle.std.proofs.Common.{◌≡◌, ◌≢◌, ℕ, ◌*◌, ◌/◌, ◌<◌, List, [], ◌∷◌, length, refl, sym, ◌∙◌, ap, subst, arith}
+use Rattle.std.specs.Prelude.{Option, Some, None, slice_get, slice_set}
 use Rattle.std.specs.List.{position_or_len}
-use Rattle.std.proofs.lemmas.Bool.{cases_eq}
 use Rattle.std.proofs.lemmas.Option.{slice_get_within}
 use Rattle.qx_fields.specs.declared.order.Order.{Order}
 use Rattle.qx_geom.specs.Pointer.{ceil_div}
 use Rattle.qx_geom.specs.Positions.{present_after}
 use Rattle.qx_nodes.specs.LongNames.{name_in}
-use Rattle.qx_nodes.specs.NodeContents.{IsSameContent, NodeContent}
+use Rattle.qx_nodes.specs.NodeContents.{IsSameContent}
 use Rattle.qx_records.specs.NameRecord.{RawRecord}
 use Rattle.qx_records.specs.declared.inode.Inode.{Inode}
 use Rattle.qx_model.specs.declared.attr.Attr.{Attr}
-use Rattle.qx_model.specs.Directories.{has_name, is_directory, slot_at, with_entry}
+use Rattle.qx_model.specs.Directories.{has_name, slot_at, with_entry}
 use Rattle.qx_model.specs.Edits.{Edit, Setting, content_changed, leaf_of_record, point_row, pointed, with_parent, with_slots}
-use Rattle.qx_model.specs.Tree.{Entry, Row, Slot, Tree, Unused, dot_name, dots_name, entry_of, slots_of}
+use Rattle.qx_model.specs.Tree.{Row, Slot, Tree}
 use Rattle.qx_model.specs.Whole.{HoldsRecords, IsWhole, IsWholeDirectory, body_size}
 use Rattle.qx_model.proofs.AddedRows.{set_at}
-use Rattle.qx_model.proofs.EditOutlines.{IsDirectoryAt, directory_at, directory_slots, replaced}
+use Rattle.qx_model.proofs.EditOutlines.{IsDirectoryAt, directory_slots, replaced}
 use Rattle.qx_model.proofs.Outlines.{slot_in}
-use Rattle.qx_model.proofs.WholeRows.{directory_whole, fit_parent}
-use Rattle.qx_view.specs.Entries.{HasContent, IsEntryOf, Reader, slot_by, slots_in}
+use Rattle.qx_model.proofs.WholeRows.{directory_whole}
+use Rattle.qx_view.specs.Entries.{HasContent, slot_by}
 use Rattle.qx_copies.specs.Copies.{Contents}
 use Rattle.qx_copies.specs.Shown.{Shows, reader_by}
 use Rattle.qx_copies.proofs.ShownNames.{listed_count, listed_slot}
@@ -28,7 +27,7 @@ use Rattle.qx_edits.specs.RecordEdits.{SetsRecord, raw_naming, record_of, size_w
 use Rattle.qx_edits.specs.SetInodes.{SetsAttr}
 use Rattle.qx_edits.proofs.DirectoryEntries.{directory_records, directory_shown, entry_was, slots_were}
 use Rattle.qx_edits.proofs.RecordSlots.{naming_says, set_present, set_size, set_slots, size_set, there_in}
-use Rattle.qx_edits.proofs.RowTrees.{dots_place, parent_is_set, pointed_is_set, rewritten}
+use Rattle.qx_edits.proofs.RowTrees.{parent_is_set, pointed_is_set}
 use Rattle.qx_records.specs.declared.kind.Kind.TheVariants as kinds
 
 module _ (order : Order) (blocksize : ℕ) (before after : List (Option Inode)) (old new : Contents) (t : Tree) (d : ℕ) (h : IsDirectoryAt t d) (pos : 0 < blocksize) (shows : Shows order blocksize before old t)

@@ -1,16 +1,16 @@
 -- A whole tree stays whole edit by edit.
-use Rattle.std.proofs.Common.{◌≡◌, ℕ, zero, suc, ◌+◌, ◌-◌, ◌/◌, ◌<◌, ◌≤◌, List, [], ◌∷◌, length, refl, sym, ◌∙◌, ap, subst, arith}
+use Rattle.std.proofs.Common.{◌≡◌, ℕ, zero, suc, ◌-◌, ◌/◌, ◌<◌, ◌≤◌, List, [], ◌∷◌, length, refl, sym, ◌∙◌, ap, subst, arith}
 use Rattle.std.specs.Prelude.{Bool, true, false, ◌==◌, None, Some, Option, if◌then◌else◌, replicate, slice_get, slice_set, unwrap_or}
 use Rattle.std.specs.List.{position_or_len, range_with_len}
 use Rattle.qx_geom.specs.Lists.{is_in}
 use Rattle.qx_geom.specs.Pointer.{ceil_div}
-use Rattle.qx_geom.proofs.ImagesAndFilters.{in_Contains, Contains-in}
+use Rattle.qx_geom.proofs.ImagesAndFilters.{Contains-in}
 use Rattle.qx_model.specs.declared.attr.Attr.{Attr}
 use Rattle.qx_model.specs.Directories.{is_unused, long_of_slot, slot_at, with_entry}
 use Rattle.qx_model.specs.Edits.{Edit, Setting, add_row, attr_changed, clear_row, lose_row, new_link, number_for, point_row, putting, slots_with, unchanged, with_attr, with_long, with_parent, without_long}
 use Rattle.qx_model.specs.EmptyTree.{new_directory}
 use Rattle.qx_model.specs.NewNames.{empty_file}
-use Rattle.qx_model.specs.Tree.{Body, Directory, Entry, File, Link, Row, Slot, Special, Tree, Unused, entry_of, links_of, slots_of_body}
+use Rattle.qx_model.specs.Tree.{Body, Directory, Entry, File, Link, Row, Special, Tree, Unused, entry_of, links_of, slots_of_body}
 use Rattle.qx_model.specs.Whole.{HoldsRecords, IsWhole, IsWholeEntry}
 use Rattle.qx_model.proofs.DoneEdits.{new_dir}
 use Rattle.qx_model.proofs.EditOutlines.{IsDirectoryAt}

@@ -5,3 +5,4 @@ pub mod LinkEdits
 pub mod PutContents
 pub mod NewDirectories
 pub mod UnnumberedEntries
+pub mod RowSteps

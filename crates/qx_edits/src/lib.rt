@@ -8,6 +8,7 @@
 
 mod inode_laws;
 mod joint_laws;
+mod move_laws;
 mod name_laws;
 mod new_laws;
 mod put_laws;
@@ -18,6 +19,7 @@ pub use inode_laws::{
     a_file_is_rewritten, a_file_is_written, an_inode_comes, an_inode_loses_a_row, attributes_change,
 };
 pub use joint_laws::{a_long_name_is_exchanged, two_records_are_put};
+pub use move_laws::a_name_is_moved;
 pub use name_laws::{a_name_is_linked, a_name_is_lost, a_name_is_made};
 pub use new_laws::{a_new_inode_is_an_entry, a_new_node_is_filled};
 pub use put_laws::{

@@ -2,7 +2,6 @@ use Rattle.qx_model.specs.Edits.{add_row, attr_changed, unchanged}
 use Rattle.qx_model.proofs.EditOutlines.{directory_at}
 use Rattle.qx_edits.proofs.ComposedNames.{linked_shown}
 use Rattle.qx_edits.proofs.LinkedRows.{added_links}
-use Rattle.qx_edits.proofs.NamedLinks.{one_own}
 use Rattle.qx_edits.proofs.ShownInodes.{attr_links}
 use Rattle.qx_edits.specs.LinkEdits.{one_more}
 use Rattle.qx_edits.proofs.name_laws.a_name_is_linked.Goals as goal

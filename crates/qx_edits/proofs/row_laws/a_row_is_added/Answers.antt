@@ -1,4 +1,4 @@
-use Rattle.std.proofs.Common.{sym, subst}
+use Rattle.std.proofs.Common.{subst}
 use Rattle.std.specs.List.{position_or_len}
 use Rattle.qx_dir.specs.Rows.{row_of}
 use Rattle.qx_model.specs.Directories.{is_unused}

@@ -1,4 +1,4 @@
-use Rattle.std.proofs.Common.{◌<◌, length, sym, subst}
+use Rattle.std.proofs.Common.{◌<◌, length, subst}
 use Rattle.qx_model.proofs.EditOutlines.{directory_at, directory_slots}
 use Rattle.std.specs.Prelude.{◌≡◌, Some}
 use Rattle.qx_model.specs.Tree.{named_by}
