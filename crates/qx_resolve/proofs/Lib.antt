@@ -1,0 +1,4 @@
+pub mod KindsOfBodies
+pub mod LooksInOrder
+pub mod MeantEntries
+pub mod WalkedNames
