@@ -1,4 +1,7 @@
 pub mod KindsOfBodies
 pub mod LooksInOrder
 pub mod MeantEntries
+pub mod ParsedPaths
+pub mod ReadTargets
 pub mod WalkedNames
+pub mod WalkedTurns

@@ -1,11 +1,12 @@
 -- The entry of a number in the tree for which a state stands.
 use Rattle.std.proofs.Common.{◌≡◌, ℕ, zero, suc, ◌<◌, ◌≤◌, inl, inr, refl, sym, ◌∙◌, ap, subst, arith, List, [], ◌∷◌, length}
-use Rattle.std.specs.Prelude.{◌⊎◌, Bool, true, false, Option, Some, None, Result, Ok, Err, ok_or, slice_index_or}
+use Rattle.std.specs.Prelude.{◌⊎◌, Bool, true, false, Option, Some, None, Result, Ok, Err, ok_or, option_and_then, slice_index_or}
 use Rattle.qx_records.specs.declared.inode.Inode.{Inode}
 use Rattle.qx_records.specs.declared.kind.Kind.{Kind}
 use Rattle.qx_records.specs.declared.kind.Kind.TheVariants as kinds
 use Rattle.qx_records.specs.InodeRecord.{kind_of}
-use Rattle.qx_nodes.specs.NodeContents.{NodeContent}
+use Rattle.qx_geom.specs.declared.root.Root.{Root}
+use Rattle.qx_nodes.specs.NodeContents.{NodeContent, bytes_in, node_content}
 use Rattle.qx_blocks.specs.BlockState.{BlockState}
 use Rattle.qx_ptree.specs.Trees.{block_map}
 use Rattle.qx_model.specs.declared.refusal.Refusal.TheVariants as refusals
@@ -13,14 +14,14 @@ use Rattle.qx_model.specs.Outcomes.{◌>>=◌}
 use Rattle.qx_model.specs.Paths as paths
 use Rattle.qx_model.specs.Tree.{Entry, IsDirectory, Tree, entry_of}
 use Rattle.qx_view.specs.Entries.{IsEntryOf, Reader}
-use Rattle.qx_copies.specs.Copies.{contents_of, inode_at}
+use Rattle.qx_copies.specs.Copies.{content_or_none, contents_of, inode_at, node_in, node_of_inode, node_of_kind}
 use Rattle.qx_copies.specs.Shown.{IsSameInode, reader_by}
 use Rattle.qx_working.specs.declared.working.Working.{Working}
 use Rattle.qx_working.specs.Standing.{IsToldState}
 use Rattle.qx_working.specs.States.{copy_of}
-use Rattle.qx_resolve.specs.Answers.{Leads}
+use Rattle.qx_resolve.specs.Answers.{IsLinkTo, Leads}
 use Rattle.qx_resolve.specs.declared.leads.Lead.TheVariants as leads
-use Rattle.qx_resolve.proofs.KindsOfBodies.{IsOf, body_of_kind, kind_of_body, kind_of_directory, leads_in, leads_nowhere, leads_through, leads_to}
+use Rattle.qx_resolve.proofs.KindsOfBodies.{IsOf, body_of_kind, kind_of_body, kind_of_directory, leads_in, leads_nowhere, leads_through, leads_to, target_of_link}
 
 -- a number that is past all inodes has none
 pub inode_within : (inodes : List (Option Inode)) (n : ℕ) (i : Inode) → inode_at inodes n ≡ Some i → (1 ≤ n) × (n ≤ length inodes)
@@ -96,3 +97,27 @@ module _ (m : BlockState) (w : Working) (t : Tree) (told : IsToldState m w t) wh
   -- nothing leads on from a number that is not live
   pub unmeant_led : (n : ℕ) (follow : Bool) (name : List ℕ) → inode_at w.table.inodes n ≡ None → paths.lead t follow n name ≡ Err refusals.NoEntry
   unmeant_led n follow name live = ap (λ o. ok_or o refusals.NoEntry >>= λ (x : Entry). paths.lead_from t follow n name x.body) (none_meant n live)
+
+  -- an entry is a live inode's
+  inode_there : (n : ℕ) (e : Entry) → entry_of t n ≡ Some e → (i : Inode) × (inode_at w.table.inodes n ≡ Some i) × IsEntryOf reader i (content n) e
+  inode_there n e is = go (inode_at w.table.inodes n) refl
+    where
+      go : (o : Option Inode) → inode_at w.table.inodes n ≡ o → (i : Inode) × (inode_at w.table.inodes n ≡ Some i) × IsEntryOf reader i (content n) e
+      go None live = absurd (let both : None ≡ Some e = sym (none_meant n live) ∙ is in cc)
+      go (Some i) live =
+          let x = one_meant n i live in
+          let same : x.0 ≡ e = (let both : Some x.0 ≡ Some e = sym x.1 ∙ is in cc) in
+          (i, live, subst (λ (y : Entry). IsEntryOf reader i (content n) y) same x.2)
+
+  -- a link has a node, whose bytes are its target; they are 1 to 1,023
+  pub link_node : (n : ℕ) (target : List ℕ) → IsLinkTo t n target
+      → (node : Root) × (node_in (copy_of w) n ≡ Some node) × (target ≡ bytes_in m.holdings.size (node_content (block_map w.order m) node)) × (0 < node.size) × (node.size < 1024)
+  link_node zero target link = absurd (let both : None ≡ Some link.0 = link.1 in cc)
+  link_node (suc k) target link =
+      let i = inode_there (suc k) link.0 link.1 in
+      let kind : kind_of i.0.mode ≡ Some kinds.Link = kind_of_body reader i.0 (content (suc k)) link.0 i.2 (subst (IsOf kinds.Link) (sym link.2) tt) in
+      let there : node_in (copy_of w) (suc k) ≡ Some i.0.root = ap (λ (o : Option Inode). option_and_then node_of_inode o) i.1 ∙ ap (λ (o : Option Kind). node_of_kind i.0.root o) kind in
+      let held = target_of_link reader i.0 (content (suc k)) link.0 target kind i.2 link.2 in
+      subst (λ (o : Option Root). (target ≡ bytes_in m.holdings.size (content_or_none (block_map w.order m) o)) × (0 < (content_or_none (block_map w.order m) o).size) × ((content_or_none (block_map w.order m) o).size < 1024)
+      → (node : Root) × (node_in (copy_of w) (suc k) ≡ Some node) × (target ≡ bytes_in m.holdings.size (node_content (block_map w.order m) node)) × (0 < node.size) × (node.size < 1024)) (sym there)
+      (λ h. (i.0.root, there, h.0, h.1, h.2)) held

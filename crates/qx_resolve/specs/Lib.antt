@@ -1,3 +1,4 @@
 pub mod Looks
 pub mod Answers
 pub mod Walks
+pub mod Turns

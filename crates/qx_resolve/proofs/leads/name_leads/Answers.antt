@@ -22,5 +22,5 @@ returns-in-Some-Directory-clause-leads g c = λ told t stands.
     let new : BlockState = g.B.Blocks.state c.directory_leads.new.blocks in
     let told_old : IsTrue old.tells = told_before old new c.directory_leads.ensures.looks.keeps told in
     let l = directory_led old c.args.state.now t (stands.told told_old) c.args.at c.in-Some.inode c.args.follows c.args.name.now (sym c.live_inode.ensures ∙ c.in-Some.is)
-        (sym c.of.ensures ∙ c.in-Some-Directory.is ∙ ap (λ k. Some k) c.in-Some-Directory.field-0-is) in
+    (sym c.of.ensures ∙ c.in-Some-Directory.is ∙ ap (λ k. Some k) c.in-Some-Directory.field-0-is) in
     subst (Leads t c.directory_leads.result) (sym l.2) (c.directory_leads.ensures.leads told t stands l.0 l.1)

@@ -24,9 +24,11 @@ returns-in-Through-clause-walked g c = λ told t stands jump.
     let there : StandsForTree mid c.args.state.now t = subst (λ (m : BlockState). StandsForTree m c.args.state.now t) (sym (c.loop-name.invariant.stays.keeps.told told_mid)) stands in
     let met : Leads t (Ok (leads.Through c.in-Through.link)) (paths.lead t (paths.is_followed last behind) at name)
     = subst (λ (f : _). Leads t (Ok (leads.Through c.in-Through.link)) (paths.lead t f at name)) c.is_followed-follows.ensures (subst (λ (l : Lead). Leads t (Ok l) (paths.lead t c.is_followed-follows.result at name)) c.in-Through.is (c.in_ok-n.ensures.leads told t there)) in
-    let first : names_left c.loop-name.names ≡ name ∷ behind = c.in-Some.ensures.steps in
-    (met.0, met.1,
-    sym (c.loop-name.invariant.walk told_mid t stands jump)
-    ∙ ap (λ (l : List (List ℕ)). paths.walk_by t last jump at l) first
-    ∙ walk_through t last jump at name behind met.0 met.2
-    ∙ ap (λ (l : List (List ℕ)). jump at met.0 l) (sym c.rest.ensures))
+    let first : names_left c.loop-name.names ≡ name ∷ behind = c.in-Some.ensures.steps in (
+      met.0,
+      met.1,
+      sym (c.loop-name.invariant.walk told_mid t stands jump)
+          ∙ ap (λ (l : List (List ℕ)). paths.walk_by t last jump at l) first
+          ∙ walk_through t last jump at name behind met.0 met.2
+          ∙ ap (λ (l : List (List ℕ)). jump at met.0 l) (sym c.rest.ensures),
+    )
