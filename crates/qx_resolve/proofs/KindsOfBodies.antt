@@ -1,18 +1,17 @@
 -- What an inode's kind says of its entry in the tree, and where a name leads.
-use Rattle.std.proofs.Common.{◌≢◌, ◌≡◌, ℕ, ◌<◌, List, inl, inr, refl, sym, ◌∙◌, ap, subst}
-use Rattle.std.specs.Prelude.{◌⊎◌, Bool, true, false, Option, Some, None, Result, Ok, Err, ok_or, bytes_eq, if◌then◌else◌}
+use Rattle.std.proofs.Common.{◌≢◌, ◌≡◌, ℕ, ◌<◌, List, refl, sym, ◌∙◌, ap, subst}
+use Rattle.std.specs.Prelude.{Bool, true, false, Option, Some, Ok, Err, ok_or, bytes_eq, if◌then◌else◌, is_some}
 use Rattle.qx_records.specs.declared.inode.Inode.{Inode}
 use Rattle.qx_records.specs.declared.kind.Kind.{Kind}
 use Rattle.qx_records.specs.declared.kind.Kind.TheVariants as kinds
 use Rattle.qx_records.specs.InodeRecord.{kind_of}
-use Rattle.qx_model.specs.declared.refusal.Refusal.{Refusal}
 use Rattle.qx_model.specs.declared.refusal.Refusal.TheVariants as refusals
 use Rattle.qx_model.specs.Tree.{Body, Directory, dot_name, dots_name, Entry, File, Link, Slot, Special, Tree, entry_of}
 use Rattle.qx_model.specs.declared.attr.Attr.{Attr}
-use Rattle.qx_model.specs.Directories.{inode_named}
+use Rattle.qx_model.specs.Directories.{inode_named, parent_of_body}
 use Rattle.qx_model.specs.Outcomes.{◌>>=◌}
 use Rattle.qx_model.specs.Paths as paths
-use Rattle.qx_view.specs.Entries.{HasContent, Holds, IsBody, IsEntryOf, IsNodeless, Reader, attr_of}
+use Rattle.qx_view.specs.Entries.{HasContent, Holds, IsBody, IsEntryOf, Reader}
 use Rattle.qx_nodes.specs.NodeContents.{NodeContent, bytes_in}
 
 -- a body of a kind
@@ -146,3 +145,18 @@ name_leads_by t follow d p name other others o is =
     ap (λ b. if b then Ok (paths.To d) else if bytes_eq name dots_name then Ok (paths.To p) else (ok_or (inode_named t d name) refusals.NoEntry >>= paths.lead_to t follow)) other
     ∙ ap (λ b. if b then Ok (paths.To p) else (ok_or (inode_named t d name) refusals.NoEntry >>= paths.lead_to t follow)) others
     ∙ ap (λ x. ok_or x refusals.NoEntry >>= paths.lead_to t follow) (sym is)
+
+-- ---- parents
+
+-- a directory alone has a parent
+pub has_parent : (b : Body) → IsOf kinds.Directory b → is_some (parent_of_body b) ≡ true
+has_parent (Directory slots parent) d = refl
+has_parent (File content) d = absurd d
+has_parent (Link target) d = absurd d
+has_parent Special d = absurd d
+
+pub has_no_parent : (b : Body) → (IsOf kinds.Directory b → ⊥) → is_some (parent_of_body b) ≡ false
+has_no_parent (Directory slots parent) other = absurd (other tt)
+has_no_parent (File content) other = refl
+has_no_parent (Link target) other = refl
+has_no_parent Special other = refl

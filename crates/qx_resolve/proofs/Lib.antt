@@ -1,4 +1,5 @@
 pub mod KindsOfBodies
+pub mod LedPaths
 pub mod LooksInOrder
 pub mod MeantEntries
 pub mod ParsedPaths

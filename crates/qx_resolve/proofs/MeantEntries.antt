@@ -1,6 +1,6 @@
 -- The entry of a number in the tree for which a state stands.
-use Rattle.std.proofs.Common.{◌≡◌, ℕ, zero, suc, ◌<◌, ◌≤◌, inl, inr, refl, sym, ◌∙◌, ap, subst, arith, List, [], ◌∷◌, length}
-use Rattle.std.specs.Prelude.{◌⊎◌, Bool, true, false, Option, Some, None, Result, Ok, Err, ok_or, option_and_then, slice_index_or}
+use Rattle.std.proofs.Common.{◌≡◌, ℕ, zero, suc, ◌<◌, ◌≤◌, inr, refl, sym, ◌∙◌, ap, subst, arith, List, [], ◌∷◌, length}
+use Rattle.std.specs.Prelude.{Bool, true, false, Option, Some, None, Ok, Err, ok_or, option_and_then, slice_index_or}
 use Rattle.qx_records.specs.declared.inode.Inode.{Inode}
 use Rattle.qx_records.specs.declared.kind.Kind.{Kind}
 use Rattle.qx_records.specs.declared.kind.Kind.TheVariants as kinds
@@ -21,7 +21,9 @@ use Rattle.qx_working.specs.Standing.{IsToldState}
 use Rattle.qx_working.specs.States.{copy_of}
 use Rattle.qx_resolve.specs.Answers.{IsLinkTo, Leads}
 use Rattle.qx_resolve.specs.declared.leads.Lead.TheVariants as leads
-use Rattle.qx_resolve.proofs.KindsOfBodies.{IsOf, body_of_kind, kind_of_body, kind_of_directory, leads_in, leads_nowhere, leads_through, leads_to, target_of_link}
+use Rattle.qx_resolve.specs.Places.{if_directory}
+use Rattle.qx_resolve.proofs.LedPaths.{directory_is, directory_none}
+use Rattle.qx_resolve.proofs.KindsOfBodies.{IsOf, body_of_kind, has_no_parent, has_parent, kind_of_body, kind_of_directory, leads_in, leads_nowhere, leads_through, leads_to, target_of_link}
 
 -- a number that is past all inodes has none
 pub inode_within : (inodes : List (Option Inode)) (n : ℕ) (i : Inode) → inode_at inodes n ≡ Some i → (1 ≤ n) × (n ≤ length inodes)
@@ -121,3 +123,17 @@ module _ (m : BlockState) (w : Working) (t : Tree) (told : IsToldState m w t) wh
       subst (λ (o : Option Root). (target ≡ bytes_in m.holdings.size (content_or_none (block_map w.order m) o)) × (0 < (content_or_none (block_map w.order m) o).size) × ((content_or_none (block_map w.order m) o).size < 1024)
       → (node : Root) × (node_in (copy_of w) (suc k) ≡ Some node) × (target ≡ bytes_in m.holdings.size (node_content (block_map w.order m) node)) × (0 < node.size) × (node.size < 1024)) (sym there)
       (λ h. (i.0.root, there, h.0, h.1, h.2)) held
+
+  -- whether an inode is a directory is seen by its kind
+  pub none_directory : (n : ℕ) → inode_at w.table.inodes n ≡ None → if_directory t n ≡ Err refusals.NotDir
+  none_directory n live = directory_none t n (none_meant n live)
+
+  pub directory_meant : (n : ℕ) (i : Inode) → inode_at w.table.inodes n ≡ Some i → kind_of i.mode ≡ Some kinds.Directory → if_directory t n ≡ Ok n
+  directory_meant n i live is =
+      let x = one_meant n i live in
+      directory_is t n x.0 x.1 true (has_parent x.0.body (body_of_kind reader i (content n) x.0 kinds.Directory is x.2))
+
+  pub other_meant : (n : ℕ) (i : Inode) → inode_at w.table.inodes n ≡ Some i → (kind_of i.mode ≡ Some kinds.Directory → ⊥) → if_directory t n ≡ Err refusals.NotDir
+  other_meant n i live other =
+      let x = one_meant n i live in
+      directory_is t n x.0 x.1 false (has_no_parent x.0.body (λ d. other (kind_of_directory reader i (content n) x.0 x.2 d)))

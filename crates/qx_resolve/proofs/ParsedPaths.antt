@@ -1,5 +1,5 @@
 -- Bytes that are a path have its parts.
-use Rattle.std.proofs.Common.{◌≡◌, Bool, true, false, if◌then◌else◌, List, ℕ, length, nat_lt, Ok, Err, ◌==◌, sym}
+use Rattle.std.proofs.Common.{◌≡◌, Bool, true, false, if◌then◌else◌, List, ℕ, length, nat_lt, Ok, Err, ◌==◌}
 use Rattle.std.specs.List.{list_any}
 use Rattle.qx_path.specs.declared.fault.PathFault.TheVariants.{Empty, TooLong, NameTooLong, ZeroByte}
 use Rattle.qx_path.specs.Names.{is_empty, names_in}

@@ -1,14 +1,10 @@
 -- A walk along names, name by name.
-use Rattle.std.proofs.Common.{◌≡◌, ◌∷◌, [], ℕ, List, true, false, not, refl, sym, ap, ◌∙◌, inl, inr, length, cond}
-use Rattle.std.specs.Prelude.{◌⊎◌, ◌==◌, Result, Ok, Err, Bool}
-use Rattle.qx_path.specs.Names.{names_in}
+use Rattle.std.proofs.Common.{◌≡◌, ◌∷◌, ℕ, List, refl, ap, ◌∙◌}
+use Rattle.std.specs.Prelude.{Result, Ok, Err}
 use Rattle.qx_model.specs.declared.refusal.Refusal.{Refusal}
 use Rattle.qx_model.specs.Outcomes.{◌>>=◌}
 use Rattle.qx_model.specs.Tree.{Tree}
 use Rattle.qx_model.specs.Paths as paths
-use Rattle.qx_resolve.specs.Answers.{IsLinkTo, IsStopped, Leads, last_of}
-use Rattle.qx_resolve.specs.declared.leads.Lead.TheVariants as leads
-use Rattle.qx_resolve.specs.Walks.{Walks}
 
 -- how a walk goes on behind one name
 abbrev behind : Tree → paths.LastLink → paths.Jump → ℕ → List (List ℕ) → paths.Lead → Result ℕ Refusal

@@ -1,13 +1,13 @@
-use Rattle.std.proofs.Common.{◌≡◌, sym, subst, ◌∙◌}
+use Rattle.std.proofs.Common.{sym, subst, ◌∙◌}
 use Rattle.std.proofs.lemmas.Result.{err_from_is_err_and}
 use Rattle.std.specs.Prelude.{IsTrue, suc, Ok}
 use Rattle.qx_blocks.specs.BlockState.{BlockState}
 use Rattle.qx_path.specs.Names.{names_in}
 use Rattle.qx_ptree.proofs.KeptPlans.{told_before}
-use Rattle.qx_model.specs.Paths.{LastLink, links_allowed, walk}
+use Rattle.qx_model.specs.Paths.{LastLink, walk}
 use Rattle.qx_working.specs.Standing.{StandsForTree}
 use Rattle.qx_resolve.specs.Answers.{Answers, last_of}
-use Rattle.qx_resolve.specs.Turns.{Turns, walk_within}
+use Rattle.qx_resolve.specs.Turns.{Turns}
 use Rattle.qx_resolve.specs.declared.following.Turn.{Turn}
 use Rattle.qx_resolve.specs.declared.following.Turn.TheVariants as turns
 use Rattle.qx_resolve.proofs.WalkedTurns.{refused_as, within_first, within_is}

@@ -1,4 +1,4 @@
-use Rattle.std.proofs.Common.{◌≡◌, List, ℕ, sym, ap, subst, ◌∙◌}
+use Rattle.std.proofs.Common.{sym, subst, ◌∙◌}
 use Rattle.std.specs.Prelude.{IsTrue, suc, Ok}
 use Rattle.qx_blocks.specs.BlockState.{BlockState}
 use Rattle.qx_path.specs.Names.{names_in}

@@ -1,16 +1,14 @@
-use Rattle.std.proofs.Common.{rules, ◌≡◌, ℕ, ◌-◌, ◌+◌, ◌<◌, ◌≤◌, List, inl, inr, sym, ap, subst, ◌∙◌, arith}
+use Rattle.std.proofs.Common.{◌≡◌, ℕ, ◌-◌, ◌+◌, List, inr, sym, ap, subst, ◌∙◌, arith}
 use Rattle.std.proofs.lemmas.Result.{err_from_is_err_and}
-use Rattle.std.specs.Prelude.{◌⊎◌, IsTrue, suc, Result, Ok, Err}
+use Rattle.std.specs.Prelude.{IsTrue, suc, Ok, Err}
 use Rattle.qx_blocks.specs.BlockState.{BlockState}
 use Rattle.qx_path.specs.Names.{names_in}
 use Rattle.qx_ptree.proofs.KeptPlans.{told_before}
-use Rattle.qx_model.specs.declared.refusal.Refusal.{Refusal}
 use Rattle.qx_model.specs.declared.refusal.Refusal.TheVariants.{LinkLoop}
 use Rattle.qx_model.specs.declared.refusal.Refusal.TheVariants as refusals
-use Rattle.qx_model.specs.Paths.{Jump, LastLink, walk, walk_by}
-use Rattle.qx_model.specs.Tree.{Tree}
+use Rattle.qx_model.specs.Paths.{LastLink, walk, walk_by}
 use Rattle.qx_working.specs.Standing.{StandsForTree}
-use Rattle.qx_resolve.specs.Answers.{Answers, IsStopped, last_of}
+use Rattle.qx_resolve.specs.Answers.{last_of}
 use Rattle.qx_resolve.specs.Turns.{Turns, walk_within}
 use Rattle.qx_resolve.specs.Walks.{Walks}
 use Rattle.qx_resolve.specs.declared.following.Turn.{Turn}

@@ -1,5 +1,5 @@
 use Rattle.std.proofs.Common.{rules, ◌≡◌, true, false, inr, sym, ◌∙◌, ap, subst}
-use Rattle.std.specs.Prelude.{bytes_eq, IsTrue, Some, None, Ok, Err}
+use Rattle.std.specs.Prelude.{bytes_eq, IsTrue, Some, None, Ok}
 use Rattle.qx_blocks.specs.BlockState.{BlockState}
 use Rattle.qx_ptree.proofs.KeptPlans.{told_before}
 use Rattle.qx_model.specs.Paths as paths

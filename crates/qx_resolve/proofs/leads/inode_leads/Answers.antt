@@ -3,7 +3,7 @@ use Rattle.std.specs.Prelude.{Some, Ok}
 use Rattle.qx_model.specs.Paths as paths
 use Rattle.qx_resolve.specs.Answers.{Leads}
 use Rattle.qx_resolve.specs.declared.leads.Lead.TheVariants as leads
-use Rattle.qx_resolve.proofs.MeantEntries.{link_led, none_led, other_led}
+use Rattle.qx_resolve.proofs.MeantEntries.{link_led, none_led}
 use Rattle.qx_resolve.proofs.leads.inode_leads.Goals as goal
 
 pub returns-in_default-clause-leads : goal.returns-in_default-clause-leads

@@ -1,5 +1,5 @@
 use Rattle.std.proofs.Common.{inr, sym, ◌∙◌, ap, subst}
-use Rattle.std.specs.Prelude.{IsTrue, Some, None, Ok, Err}
+use Rattle.std.specs.Prelude.{IsTrue, Some, None}
 use Rattle.qx_records.specs.declared.kind.Kind.TheVariants as kinds
 use Rattle.std.specs.Prelude.{◌≡◌}
 use Rattle.qx_blocks.specs.BlockState.{BlockState}

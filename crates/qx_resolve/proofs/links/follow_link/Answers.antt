@@ -1,6 +1,6 @@
-use Rattle.std.proofs.Common.{◌≡◌, ◌++◌, List, ℕ, true, false, inr, sym, ◌∙◌, ap, inl}
+use Rattle.std.proofs.Common.{◌≡◌, ◌++◌, List, ℕ, inr, sym, ◌∙◌, ap, inl}
 use Rattle.std.proofs.lemmas.Result.{err_from_is_err_and}
-use Rattle.std.specs.Prelude.{IsTrue, Ok, Err, if◌then◌else◌, ◌⊎◌}
+use Rattle.std.specs.Prelude.{if◌then◌else◌}
 use Rattle.qx_path.specs.Names.{names_in}
 use Rattle.qx_path.specs.PathParts.{PathParts}
 use Rattle.qx_model.specs.Paths.{parsed, start_in}
