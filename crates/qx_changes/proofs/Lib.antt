@@ -1,0 +1,3 @@
+mod MadeNodes
+mod WrittenNodes
+mod EditedStates

@@ -1,0 +1,20 @@
+//! What a state stands for once an edit was made.
+ghost use Rattle.std.specs.Prelude.{List, IsTrue};
+ghost use Rattle.qx_blocks.specs.BlockState.{BlockState, IsConsistent};
+ghost use Rattle.qx_batch.specs.declared.planned.Planned.{Planned};
+ghost use Rattle.qx_batch.specs.Nodes.{AreLaid, AreNodesOf};
+ghost use Rattle.qx_model.specs.Edits.{Edit};
+ghost use Rattle.qx_model.specs.Tree.{Tree};
+ghost use Rattle.qx_copies.specs.Copies.{Contents, node_in};
+ghost use Rattle.qx_working.specs.declared.working.Working.{Working};
+ghost use Rattle.qx_working.specs.States.{copy_of};
+ghost use Rattle.qx_placing.specs.PlannedEdits.{IsMadeBy};
+ghost use Rattle.qx_changes.specs.Edited.{BeginsAs, EndsAs, HasEdited, ShowsSound, StandsForOwn};
+ghost use Rattle.qx_changes.specs.Made.{AreWritten};
+
+/// A state whose planned changes were made, and whose inodes and contents show the edited tree, stands for it: so an operation has to show this alone.
+pub fn an_edited_state_stands()
+    ensures edited { (m n : BlockState) (w v after x : Working) (t : Tree) (e : Edit) (ps : List Planned) (held : Contents) → IsTrue n.tells → StandsForOwn m w t → BeginsAs m w v
+        → AreNodesOf (node_in (copy_of v)) ps → AreWritten m n v after ps held → IsMadeBy w.order m t e ps → EndsAs n after x → ShowsSound n x e.tree → HasEdited m n w x t e }
+    ensures laid { (m : BlockState) (w : Working) (t : Tree) → IsConsistent m → IsTrue m.tells → StandsForOwn m w t → BeginsAs m w w }
+{}
