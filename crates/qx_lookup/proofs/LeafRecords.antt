@@ -1,5 +1,5 @@
 -- The records of a leaf by their numbers.
-use Rattle.std.proofs.Common.{ℕ, ◌+◌, ◌-◌, ◌*◌, ◌/◌, ◌^◌, ◌<◌, ◌≤◌, inl, inr, sym, subst, arith}
+use Rattle.std.proofs.Common.{◌≡◌, ℕ, ◌+◌, ◌-◌, ◌*◌, ◌/◌, ◌^◌, ◌<◌, ◌≤◌, inl, inr, sym, subst, arith}
 use Rattle.qx_geom.specs.declared.root.Root.{Root}
 use Rattle.qx_geom.specs.Pointer.{ceil_div, reach}
 use Rattle.qx_geom.proofs.LevelCounts.{ceil_div-below, ceil_div-le}
@@ -38,3 +38,18 @@ pub leaf_few : (size index : ℕ) (node : Root) → IsBlockSize size → HasLeve
 leaf_few size index node sized levels below =
     let most : ceil_div node.size size ≤ reach size node.levels = ceil_div-le node.size size (reach size node.levels) (size_positive size sized) levels.reached in
     omega (arith, below, most, power-few size node.levels sized levels.most)
+
+-- a hole before a leaf that begins below a directory's size begins with a record below it
+pub hole_low : (size bytes from index : ℕ) → IsBlockSize size → index < ceil_div bytes size → from < index → from * (size / 32) < bytes / 32
+hole_low size bytes from index sized below before =
+    each_size (λ z. index * z < bytes → from * (z / 32) < bytes / 32) size sized
+    (λ low. omega (arith, low, before)) (λ low. omega (arith, low, before)) (λ low. omega (arith, low, before)) (λ low. omega (arith, low, before))
+    (ceil_div-below bytes size index (size_positive size sized) below)
+
+-- the first record of a leaf is in the leaf
+pub first_of_leaf : (size leaf : ℕ) → IsBlockSize size → leaf * (size / 32) * 32 / size ≡ leaf
+first_of_leaf size leaf sized = each_size (λ z. leaf * (z / 32) * 32 / z ≡ leaf) size sized (omega arith) (omega arith) (omega arith) (omega arith)
+
+-- few leaves have few records
+pub few_records : (size from : ℕ) → IsBlockSize size → from ≤ 2 ^ 54 → from * (size / 32) < 2 ^ 64
+few_records size from sized few = each_size (λ z. from * (z / 32) < 2 ^ 64) size sized (omega (arith, few)) (omega (arith, few)) (omega (arith, few)) (omega (arith, few))

@@ -5,4 +5,5 @@ mod DirectoryRecords
 mod ToldDirectories
 mod NamedRows
 mod BareRecords
+mod FreeRecords
 mod ReadableNodes

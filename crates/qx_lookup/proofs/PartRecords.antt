@@ -20,11 +20,11 @@ part_slice n at bytes low =
 
 module _ (order : Order) (bytes part name : List ℕ) (to : ℕ) (is : part ≡ take (32 * to) bytes) (long : 32 * to ≤ length bytes) where
   -- how many records it has
-  records_to : length part / 32 ≡ to
+  pub records_to : length part / 32 ≡ to
   records_to = let all : length part ≡ 32 * to = ap length is ∙ length-take-le (32 * to) bytes long in omega (arith, all)
 
   -- each is the block's
-  same_record : (k : ℕ) → k < to → (record_at order part k).raw ≡ (record_at order bytes k).raw
+  pub same_record : (k : ℕ) → k < to → (record_at order part k).raw ≡ (record_at order bytes k).raw
   same_record k low =
       ap (λ bs. raw_in order (slice_range bs (k * 32) (k * 32 + 32))) is ∙ ap (raw_in order) (part_slice (32 * to) (k * 32) bytes (omega (arith, low)))
 

@@ -1,6 +1,6 @@
 -- The nodes of a state that can be read, and what is read of its directories where it stands for a tree.
 use Rattle.std.proofs.Common.{◌≡◌, ℕ, zero, suc, ◌/◌, List, [], refl}
-use Rattle.std.specs.Prelude.{Bool, Option, Some, None, Result, Ok, Err, IfOk, IsTrue, map, option_and_then}
+use Rattle.std.specs.Prelude.{position, Bool, Option, Some, None, Result, Ok, Err, IfOk, IsTrue, map, option_and_then}
 use Rattle.qx_geom.specs.declared.root.Root.{Root}
 use Rattle.qx_geom.specs.Lists.{each_below}
 use Rattle.qx_nodes.specs.Content.{Reaches}
@@ -10,7 +10,7 @@ use Rattle.qx_records.specs.declared.kind.Kind.TheVariants as kinds
 use Rattle.qx_records.specs.InodeRecord.{kind_of}
 use Rattle.qx_blocks.specs.BlockState.{BlockState, IsConsistent}
 use Rattle.qx_ptree.specs.Trees.{HasLevels, block_map}
-use Rattle.qx_model.specs.Directories.{is_bare}
+use Rattle.qx_model.specs.Directories.{is_bare, is_unused}
 use Rattle.qx_model.specs.Tree.{Tree, slots_of}
 use Rattle.qx_copies.specs.Copies.{BlockCopy, inode_at, node_in, node_of_inode, node_of_kind}
 use Rattle.qx_working.specs.declared.working.Working.{Working}
@@ -21,8 +21,10 @@ use Rattle.qx_lookup.specs.declared.rows.FoundRow.{FoundRow}
 use Rattle.qx_lookup.specs.Names.{IsRowNamed, directory_in, directory_of_kind}
 use Rattle.qx_lookup.specs.Links.{IsBareFrom}
 use Rattle.qx_lookup.specs.Rows.{IsFirstRow, slot_in}
+use Rattle.qx_lookup.specs.UnusedRecords.{IsFirstOf, says_unused}
 use Rattle.qx_lookup.proofs.BareRecords.{bare_listed}
 use Rattle.qx_lookup.proofs.DirectoryRecords.{reaches}
+use Rattle.qx_lookup.proofs.FreeRecords.{unused_listed}
 use Rattle.qx_lookup.proofs.NamedRows.{row_listed}
 use Rattle.qx_lookup.proofs.ToldDirectories.{no_slots, told_slots}
 
@@ -80,3 +82,11 @@ pub bare_told : {E : Type 0} (m new : BlockState) (w : Working) (d : ℕ) (node 
 bare_told m new w d node (Ok bare) consistent before is said = λ told t stands.
     bare_listed (slot_in (block_map w.order m) w.long node) (node.size / 32) t d (slots_told m w consistent (before told) t stands d node is) bare (said told)
 bare_told m new w d node (Err stop) consistent before is said = tt
+
+-- and which record is the first unused one
+pub unused_told : {E : Type 0} (m new : BlockState) (w : Working) (d : ℕ) (node : Root) (result : Result (Option ℕ) E) → IsConsistent m → (IsTrue new.tells → IsTrue m.tells) → directory_in w.table.inodes d ≡ Some node
+    → IfOk result (λ found. IsTrue new.tells → (longfile : Root) → IsFirstOf (λ k. says_unused (slot_in (block_map w.order m) longfile node k)) 0 (node.size / 32) found)
+    → IfOk result (λ found. IsTrue new.tells → (t : Tree) → StandsForTree m w t → found ≡ position is_unused (slots_of t d))
+unused_told m new w d node (Ok found) consistent before is said = λ told t stands.
+    unused_listed (slot_in (block_map w.order m) w.long node) (node.size / 32) t d (slots_told m w consistent (before told) t stands d node is) found (said told w.long)
+unused_told m new w d node (Err stop) consistent before is said = tt
