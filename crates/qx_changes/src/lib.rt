@@ -11,6 +11,6 @@ mod laws;
 mod putting;
 
 pub use changing::{Room, change_nodes};
-pub use edited_laws::an_edited_state_stands;
+pub use edited_laws::{a_state_of_ours_stands_for_ids, an_edited_state_stands};
 pub use laws::{a_state_stays_readable, what_was_written_takes_bytes};
 pub use putting::{Bytes, put_bytes};
