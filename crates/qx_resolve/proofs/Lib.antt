@@ -4,5 +4,6 @@ pub mod LooksInOrder
 pub mod MeantEntries
 pub mod ParsedPaths
 pub mod ReadTargets
+pub mod ReadableStates
 pub mod WalkedNames
 pub mod WalkedTurns

@@ -20,3 +20,6 @@ pub use links::read_link;
 pub use named::Named;
 pub use parsing::parse;
 pub use paths::{Place, directory, inode_at, parent_at, place_at};
+
+#[cfg(test)]
+mod tests;
